@@ -1,0 +1,4 @@
+pub mod Choice
+pub mod Rows
+pub mod Pages
+pub mod Places

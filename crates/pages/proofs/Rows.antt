@@ -1,0 +1,96 @@
+-- Laws of lists of anything, as loops over a buffer need them: an element at a time, stores, parts that are lent, and rows written over a buffer. Assumes nothing.
+use Prim.Native.Nat.{ℕ, suc, _+_, _-_, _≤_, _<_}
+use mathlib.Core.Path.{_≡_, refl, _∙_}
+use mathlib.Core.Bool.{Bool, true, false}
+use mathlib.Core.List.{List, [], _∷_, _++_, append-assoc, append-nil}
+use native.Mathlib.Nat.{add-zero, zero-add, suc-add, add-suc}
+use native.Mathlib.Numerals.{add-one}
+use native.Mathlib.Omega.{arith}
+use lib.ListN.{length, getD, take, drop, set, length-append, length-drop, take-append-drop, drop-of-length-le}
+use lib.Seq.{drop-cons, take-suc, take-suc-set, append-snoc, take-append-seam, drop-append-add, drop-drop, take-set-le, take-set-lt, drop-set-lt, drop-set-add, sets, sets-eq}
+use Rattle.pages.specs.Rows.{consIf, flat, over}
+
+module _ {A : Type 0} where
+  -- ---- an element at a time
+
+  pub drop-next : (l : List A) (i : ℕ) (d : A) → i < length l → drop i l ≡ getD l i d ∷ drop (i + 1) l
+  drop-next l i d h = rw add-one (drop-cons l i d h)
+
+  pub take-next : (l : List A) (i : ℕ) (d : A) → i < length l → take (i + 1) l ≡ take i l ++ (getD l i d ∷ [])
+  take-next l i d h = rw add-one (take-suc l i d h)
+
+  -- A store where what is done ends: what is done is longer by it, and what is left has its first taken.
+  pub store-done : (l : List A) (i : ℕ) (a : A) (r : List A) → i < length l → take (i + 1) (set l i a) ++ r ≡ take i l ++ a ∷ r
+  store-done l i a r h = rw (add-one, take-suc-set l i a h) (append-snoc (take i l) a r)
+
+  pub store-left : (l : List A) (i : ℕ) (a : A) → drop (i + 1) (set l i a) ≡ drop (i + 1) l
+  store-left l i a = drop-set-lt (i + 1) l i a (omega arith)
+
+  -- ---- a run of stores
+
+  pub sets-append : (l : List A) (i : ℕ) (a b : List A) → sets l i (a ++ b) ≡ sets (sets l i a) (i + length a) b
+  sets-append l i [] b = rw add-zero
+  sets-append l i (x ∷ a) b = rw (add-suc, ← suc-add) (sets-append (set l i x) (suc i) a b)
+
+  pub sets-drop : (n : ℕ) (l : List A) (i : ℕ) (vs : List A) → drop n (sets l (n + i) vs) ≡ sets (drop n l) i vs
+  sets-drop n l i [] = refl
+  sets-drop n l i (a ∷ vs) = rw (← add-suc n i, sets-drop n (set l (n + i) a) (suc i) vs, drop-set-add n l i a)
+
+  pub sets-take : (n : ℕ) (l : List A) (i : ℕ) (vs : List A) → n ≤ i → take n (sets l i vs) ≡ take n l
+  sets-take n l i [] h = refl
+  sets-take n l i (a ∷ vs) h = sets-take n (set l i a) (suc i) vs (omega arith) ∙ take-set-le n l i a h
+
+  -- The part of a buffer from place n on was lent and stored to.
+  pub sets-part : (n : ℕ) (l : List A) (i : ℕ) (vs : List A) → n ≤ length l → take n l ++ sets (drop n l) i vs ≡ sets l (n + i) vs
+  sets-part n l i vs h = rw (← sets-take n l (n + i) vs (omega arith), ← sets-drop n l i vs) (take-append-drop n (sets l (n + i) vs))
+
+  -- The first m places of a buffer were lent and stored to.
+  pub sets-first : (m : ℕ) (l : List A) (i : ℕ) (vs : List A) → i + length vs ≤ m → sets (take m l) i vs ++ drop m l ≡ sets l i vs
+  sets-first m l i [] h = take-append-drop m l
+  sets-first m l i (a ∷ vs) h =
+      rw (← take-set-lt m l i a (omega arith), ← drop-set-lt m l i a (omega arith)) (sets-first m (set l i a) (suc i) vs (omega arith))
+
+  -- A part of m places from place n on was lent and stored to.
+  pub sets-within : (l : List A) (n m i : ℕ) (vs : List A) → i + length vs ≤ m → n + m ≤ length l
+      → take n l ++ (sets (take m (drop n l)) i vs ++ drop (n + m) l) ≡ sets l (n + i) vs
+  sets-within l n m i vs h b = rw (← drop-drop m n l, sets-first m (drop n l) i vs h) (sets-part n l i vs (omega arith))
+
+  -- ---- a row written over the front of a buffer
+
+  pub sets-over : (s d : List A) → length s ≤ length d → sets d 0 s ≡ over s d
+  unfolding over
+  sets-over s d h = sets-eq s d 0 (omega arith) ∙ rw zero-add
+
+  pub over-over : (s t d : List A) → length s ≤ length t → over t (over s d) ≡ over t d
+  unfolding over
+  over-over s t d h =
+      let k = length t - length s in
+      let e : length t ≡ length s + k = omega arith in
+      rw (e, drop-append-add, drop-drop)
+
+  pub length-over : (s d : List A) → length s ≤ length d → length (over s d) ≡ length d
+  unfolding over
+  length-over s d h = simp (length-append, length-drop) (omega arith)
+
+  pub over-whole : (s d : List A) → length d ≤ length s → over s d ≡ s
+  unfolding over
+  over-whole s d h = rw (drop-of-length-le d h, append-nil)
+
+  pub take-over : (s d : List A) → take (length s) (over s d) ≡ s
+  unfolding over
+  take-over s d = take-append-seam s (drop (length s) d)
+
+  -- ---- lists one after the other
+
+  pub flat-append : (a b : List (List A)) → flat (a ++ b) ≡ flat a ++ flat b
+  unfolding flat
+  flat-append [] b = refl
+  flat-append (l ∷ a) b = rw (flat-append a b, append-assoc)
+
+  pub flat-one : (l : List A) → flat (l ∷ []) ≡ l
+  unfolding flat
+  flat-one l = append-nil l
+
+  pub consIf-append : (b : Bool) (x : A) (u v : List A) → consIf b x u ++ v ≡ consIf b x (u ++ v)
+  consIf-append true x u v = refl
+  consIf-append false x u v = refl

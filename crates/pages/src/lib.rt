@@ -1,0 +1,1 @@
+// Lists of pages: definitions and laws, and no code.
