@@ -44,6 +44,7 @@ fn lies(least: u64, most: u64, n: u64) -> bool
 
 impl Filter {
     pub const LEAST: u64 = 1;
+
     pub const MOST: u64 = 1024;
 
     pub fn new(size: u64) -> FilterMade
@@ -64,6 +65,7 @@ impl Filter {
 
 impl Cache {
     pub const LEAST: u64 = 1;
+
     pub const MOST: u64 = 4096;
 
     pub fn new(size: u64) -> CacheMade
@@ -84,6 +86,7 @@ impl Cache {
 
 impl Items {
     pub const LEAST: u64 = 0;
+
     pub const MOST: u64 = 1_000_000;
 
     pub fn new(count: u64) -> ItemsMade

@@ -8,6 +8,7 @@ use native.Mathlib.Numerals.{add-one}
 use native.Mathlib.Omega.{arith}
 use lib.ListN.{length, getD, take, drop, set, length-append, length-drop, take-append-drop, drop-of-length-le}
 use lib.Seq.{drop-cons, take-suc, take-suc-set, append-snoc, take-append-seam, drop-append-add, drop-drop, take-set-le, take-set-lt, drop-set-lt, drop-set-add, sets, sets-eq}
+use borrow.Rule.Slice.PartMut.{midOf, putMid}
 use Rattle.pages.specs.Rows.{consIf, flat, over}
 
 module _ {A : Type 0} where
@@ -41,8 +42,8 @@ module _ {A : Type 0} where
   sets-take n l i (a ∷ vs) h = sets-take n (set l i a) (suc i) vs (omega arith) ∙ take-set-le n l i a h
 
   -- The part of a buffer from place n on was lent and stored to.
-  pub sets-part : (n : ℕ) (l : List A) (i : ℕ) (vs : List A) → n ≤ length l → take n l ++ sets (drop n l) i vs ≡ sets l (n + i) vs
-  sets-part n l i vs h = rw (← sets-take n l (n + i) vs (omega arith), ← sets-drop n l i vs) (take-append-drop n (sets l (n + i) vs))
+  pub sets-part : (n : ℕ) (l : List A) (i : ℕ) (vs : List A) → take n l ++ sets (drop n l) i vs ≡ sets l (n + i) vs
+  sets-part n l i vs = rw (← sets-take n l (n + i) vs (omega arith), ← sets-drop n l i vs) (take-append-drop n (sets l (n + i) vs))
 
   -- The first m places of a buffer were lent and stored to.
   pub sets-first : (m : ℕ) (l : List A) (i : ℕ) (vs : List A) → i + length vs ≤ m → sets (take m l) i vs ++ drop m l ≡ sets l i vs
@@ -50,10 +51,10 @@ module _ {A : Type 0} where
   sets-first m l i (a ∷ vs) h =
       rw (← take-set-lt m l i a (omega arith), ← drop-set-lt m l i a (omega arith)) (sets-first m (set l i a) (suc i) vs (omega arith))
 
-  -- A part of m places from place n on was lent and stored to.
-  pub sets-within : (l : List A) (n m i : ℕ) (vs : List A) → i + length vs ≤ m → n + m ≤ length l
-      → take n l ++ (sets (take m (drop n l)) i vs ++ drop (n + m) l) ≡ sets l (n + i) vs
-  sets-within l n m i vs h b = rw (← drop-drop m n l, sets-first m (drop n l) i vs h) (sets-part n l i vs (omega arith))
+  -- A part of m places from place n on was lent, stored to from its place i on, and has come back: the whole is stored to from place p on.
+  pub sets-lent : (n m : ℕ) (l : List A) (i : ℕ) (vs : List A) (p : ℕ) {ys : List A} → ys ≡ sets (midOf n m l) i vs → i + length vs ≤ m → n + i ≡ p
+      → putMid n m l ys ≡ sets l p vs
+  sets-lent n m l i vs p e h q = rw (e, ← q, sets-first m (drop n l) i vs h) (sets-part n l i vs)
 
   -- ---- a row written over the front of a buffer
 

@@ -1,0 +1,34 @@
+-- What is promised of the file format, over the definitions that the contracts cite. Assumes nothing.
+use Prim.Native.Nat.{ℕ, _+_, _*_, _<_, _≤_}
+use mathlib.Core.Path.{_≡_}
+use mathlib.Core.Bool.{true}
+use mathlib.Core.List.{List}
+use lib.ListN.{length, getD}
+use Rattle.trace.specs.Layout.{encode, header, items, decode}
+use Rattle.trace.specs.Rules.{allowed, Allowed}
+use Rattle.trace.specs.Check.{checked}
+use Rattle.trace.specs.declared.Item.{Item}
+use Rattle.trace.specs.declared.Header.{Header}
+use Rattle.trace.specs.declared.Checked.the-variants.{Accepted}
+
+-- Every number of a row is a byte.
+abbrev pub AreBytes : List ℕ → Type 0
+AreBytes f = (i : ℕ) → getD f i 0 < 256
+
+-- "A written trace reads back as the items that went in": for every header and items that the rules allow.
+abbrev pub ReadsBack : Type 0
+ReadsBack = (h : Header) (t : List Item) → Allowed h t → decode (encode h t) ≡ record { header = h; items = t }
+
+-- What is written by the rules is accepted.
+abbrev pub IsTaken : Type 0
+IsTaken = (h : Header) (t : List Item) → Allowed h t → checked (encode h t) ≡ Accepted h
+
+-- What is accepted says what the rules allow, and nothing else would be it: a file is determined by what it says.
+pub record Says (f : List ℕ) (h : Header) : Type 0 where
+  pub header-is : header f ≡ h
+  pub long : length f ≡ 23 + 19 * h .items
+  pub keeps-rules : Allowed h (items f)
+  pub written : encode h (items f) ≡ f
+
+abbrev pub IsDetermined : Type 0
+IsDetermined = (f : List ℕ) (h : Header) → AreBytes f → checked f ≡ Accepted h → Says f h
