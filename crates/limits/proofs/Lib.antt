@@ -1,2 +1,3 @@
-pub mod Numbers
 pub mod Made
+pub mod Numbers
+pub mod Once

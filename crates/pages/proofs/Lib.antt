@@ -2,3 +2,4 @@ pub mod Choice
 pub mod Rows
 pub mod Pages
 pub mod Places
+pub mod Once

@@ -14,7 +14,7 @@ remove-example : remove 5 (7 ∷ 5 ∷ 9 ∷ []) ≡ 7 ∷ 9 ∷ []
 unfolding remove
 remove-example = refl
 
-add-example : add 5 (add 9 (7 ∷ 5 ∷ [])) ≡ 9 ∷ 7 ∷ 5 ∷ []
+add-example : add 5 (add 9 (7 ∷ 5 ∷ [])) ≡ 7 ∷ 5 ∷ 9 ∷ []
 unfolding add has
 add-example = refl
 

@@ -17,9 +17,9 @@ unfoldable pub remove : ℕ → List ℕ → List ℕ
 remove p [] = []
 remove p (q ∷ l) = cond (eqb p q) l (q ∷ remove p l)
 
--- A list with the page p in front, unless p is in it already.
+-- A list with the page p at its end, unless p is in it already.
 unfoldable pub add : ℕ → List ℕ → List ℕ
-add p l = cond (has p l) l (p ∷ l)
+add p l = cond (has p l) l (l ++ (p ∷ []))
 
 -- The first place of the page p in a list, or the list's length if p is not in it.
 unfoldable pub place : ℕ → List ℕ → ℕ
