@@ -47,6 +47,9 @@ impl Filter {
 
     pub const MOST: u64 = 1024;
 
+    // As many places hold the pages of any filter.
+    pub const PLACES: usize = Filter::MOST as usize;
+
     pub fn new(size: u64) -> FilterMade
         ensures { λ r. do ⌜ r ≡ filterOf (← ⟦Filter::LEAST⟧ .entry) (← ⟦Filter::MOST⟧ .entry) size ⌝ }
     {

@@ -1,5 +1,7 @@
+pub mod Added
 pub mod Choice
-pub mod Rows
+pub mod Once
 pub mod Pages
 pub mod Places
-pub mod Once
+pub mod Rows
+pub mod Table

@@ -7,7 +7,7 @@ use lib.ListN.{length}
 use lib.Dec.{eqb}
 pub use mathlib.Mathlib.Data.List.Basic.{getLast?-append-cons as last-append}
 use Rattle.pages.specs.Rows.{consIf}
-use Rattle.pages.specs.Pages.{has, remove, add, without, Distinct}
+use Rattle.pages.specs.Pages.{has, remove, without, Distinct}
 use Rattle.pages.proofs.Choice.{split, same, eqb-sym, or-false, or-swap}
 
 -- ---- a page
@@ -119,14 +119,3 @@ module _ {A : Type 0} where
   init-append [] x r = refl
   init-append (y ∷ []) x r = refl
   init-append (y ∷ z ∷ a) x r = ap (λ (l : List A). y ∷ l) (init-append (z ∷ a) x r)
-
--- ---- a page more, in order of first reference
-
-module _ (p : ℕ) (l : List ℕ) where
-  pub add-old : has p l ≡ true → add p l ≡ l
-  unfolding add
-  add-old h = rw h
-
-  pub add-new : has p l ≡ false → add p l ≡ l ++ (p ∷ [])
-  unfolding add
-  add-new h = rw h

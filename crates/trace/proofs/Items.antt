@@ -1,13 +1,14 @@
 -- The items of a file as a list, an item at a time, and how long what is written is. Assumes nothing.
-use Prim.Native.Nat.{ℕ, zero, suc, _+_, _*_, _<_}
-use mathlib.Core.Path.{_≡_, refl, ap}
+use Prim.Native.Nat.{ℕ, zero, suc, _+_, _-_, _*_, _≤_, _<_}
+use native.Mathlib.Nat.{add-zero, zero-add}
+use mathlib.Core.Path.{_≡_, refl, sym, ap, _∙_}
 use mathlib.Core.List.{List, [], _∷_, _++_, append-assoc}
 use native.Mathlib.Omega.{arith}
 use lib.ListN.{length, take, drop, getD, length-append}
 use lib.Seq.{drop-drop}
 use Rattle.pages.proofs.Rows.{drop-next, take-next}
 use Rattle.trace.specs.Bytes.{bytes}
-use Rattle.trace.specs.Layout.{field, encodeHeader, encodeItem, encodeItems, encode, item, itemAt, itemsOf}
+use Rattle.trace.specs.Layout.{field, encodeHeader, encodeItem, encodeItems, encode, header, item, itemAt, itemsOf, itemsFrom, items}
 use Rattle.trace.specs.declared.Item.{Item}
 use Rattle.trace.specs.declared.Header.{Header}
 
@@ -45,6 +46,61 @@ module _ (f : List ℕ) (n i : ℕ) (h : i < n) where
   -- What is done after item i is what was done before it and item i.
   pub take-items : take (i + 1) (itemsOf n (drop 23 f)) ≡ take i (itemsOf n (drop 23 f)) ++ (itemAt f i ∷ [])
   take-items = rw (here (itemAt f i)) at (take-next (itemsOf n (drop 23 f)) i (itemAt f i) inside)
+
+-- The items of a file are those from item 0 on.
+pub items-from : (f : List ℕ) → items f ≡ itemsFrom f 0 (header f .items)
+unfolding items itemsFrom
+items-from f = refl
+
+-- As many items are read from item i on as are asked for.
+pub length-from : (f : List ℕ) (i n : ℕ) → length (itemsFrom f i n) ≡ n
+unfolding itemsFrom
+length-from f i n = length-items n (drop (23 + 19 * i) f)
+
+-- The first of them, and the others.
+pub from-next : (f : List ℕ) (i n : ℕ) → itemsFrom f i (suc n) ≡ itemAt f i ∷ itemsFrom f (i + 1) n
+unfolding itemsFrom itemsOf itemAt
+from-next f i n =
+    let e : 23 + 19 * (i + 1) ≡ 23 + 19 * i + 19 = omega arith in
+    rw (e, drop-drop 19 (23 + 19 * i) f)
+
+-- Some of them, and the others.
+pub from-append : (f : List ℕ) (i m n : ℕ) → itemsFrom f i (m + n) ≡ itemsFrom f i m ++ itemsFrom f (i + m) n
+unfolding itemsFrom itemsOf
+from-append f i zero n = rw (zero-add, add-zero)
+from-append f i (suc m) n =
+    let e : suc m + n ≡ suc (m + n) = omega arith in
+    let q : i + suc m ≡ i + 1 + m = omega arith in
+    rw (e, q) (from-next f i (m + n) ∙ ap (λ (t : List Item). itemAt f i ∷ t) (from-append f (i + 1) m n) ∙ ap (λ (t : List Item). t ++ itemsFrom f (i + 1 + m) n) (sym (from-next f i m)))
+
+module _ (f : List ℕ) {i n : ℕ} where
+  -- What is left of n items from item i on.
+  pub from-turn : i < n → itemsFrom f i (n - i) ≡ itemAt f i ∷ itemsFrom f (i + 1) (n - (i + 1))
+  from-turn h =
+      let e : n - i ≡ suc (n - (i + 1)) = omega arith in
+      rw e (from-next f i (n - (i + 1)))
+
+  -- Nothing is.
+  pub from-none : n ≤ i → itemsFrom f i (n - i) ≡ []
+  unfolding itemsFrom itemsOf
+  from-none h =
+      let e : n - i ≡ 0 = omega arith in
+      rw e
+
+-- What is left of n items, in two parts.
+pub from-split : (f : List ℕ) {i e n : ℕ} → i ≤ e → e ≤ n → itemsFrom f i (n - i) ≡ itemsFrom f i (e - i) ++ itemsFrom f e (n - e)
+from-split f {i} {e} {n} h g =
+    let p : n - i ≡ (e - i) + (n - e) = omega arith in
+    let q : i + (e - i) ≡ e = omega arith in
+    rw (p, from-append f i (e - i) (n - e), q)
+
+-- One item more.
+pub from-more : (f : List ℕ) {i k : ℕ} → i ≤ k → itemsFrom f i (k + 1 - i) ≡ itemsFrom f i (k - i) ++ (itemAt f k ∷ [])
+unfolding itemsFrom itemsOf
+from-more f {i} {k} h =
+    let p : k + 1 - i ≡ (k - i) + 1 = omega arith in
+    let q : i + (k - i) ≡ k = omega arith in
+    rw (p, from-append f i (k - i) 1, q) (ap (λ (t : List Item). itemsFrom f i (k - i) ++ t) (from-next f k 0))
 
 -- ---- writing
 

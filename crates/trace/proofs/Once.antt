@@ -4,6 +4,8 @@ use denote.Ref.{now}
 use Rattle.pages.proofs.Once.{OneResult, OneBuffer}
 use Rattle.trace.proofs.check.Kinds as check
 use Rattle.trace.proofs.check.Reads.{Post as check-post}
+use Rattle.trace.proofs.judge.Kinds as judge
+use Rattle.trace.proofs.judge.Reads.{Post as judge-post}
 use Rattle.trace.proofs.told.Kinds as told
 use Rattle.trace.proofs.told.Reads.{Post as told-post}
 use Rattle.trace.proofs.read.is_field.Kinds as is-field
@@ -35,6 +37,9 @@ use Rattle.trace.proofs.numbers.put_u64.Reads.{Post as put-u64-post}
 
 pub check-once : OneResult check.ps check.r check-post
 check-once κs args x y s t p q = p ∙ sym q
+
+pub judge-once : OneResult judge.ps judge.r judge-post
+judge-once κs args x y s t p q = p ∙ sym q
 
 pub told-once : OneResult told.ps told.r told-post
 told-once κs args x y s t p q = p ∙ sym q

@@ -62,6 +62,10 @@ unfoldable pub itemsOf : ℕ → List ℕ → List Item
 itemsOf zero s = []
 itemsOf (suc n) s = item s ∷ itemsOf n (drop 19 s)
 
+-- The n items of a file from item i on.
+unfoldable pub itemsFrom : List ℕ → ℕ → ℕ → List Item
+itemsFrom f i n = itemsOf n (drop (23 + 19 * i) f)
+
 -- The items of a file, as many as its header says.
 unfoldable pub items : List ℕ → List Item
 items f = itemsOf (header f .items) (drop 23 f)

@@ -10,7 +10,7 @@ ghost use Rattle.trace.specs.Layout.{itemAt};
 ghost use Rattle.trace.specs.Rules.{wholeRules, reducedRules, allowed};
 ghost use Rattle.trace.specs.Refusals.{refused, row};
 ghost use Rattle.trace.specs.Verdict.{first};
-ghost use Rattle.trace.specs.Check.{headerTests, itemTests, itemsVerdict, checked};
+ghost use Rattle.trace.specs.Check.{headerTests, itemTests, itemsVerdict, verdict, checked};
 
 pub mod numbers;
 pub mod read;
@@ -216,18 +216,25 @@ fn items_verdict(file: &[u8], n: usize) -> Verdict
     Verdict::Sound
 }
 
+// Refusals 1 to 6 of a file of any bytes.
+pub fn judge(file: &[u8]) -> Verdict
+    ensures { λ r. ⌜ r ≡ verdict (now (file .entry)) ⌝ }
+{
+    match header_verdict(file) {
+        Verdict::Faulty(r) => Verdict::Faulty(r),
+        Verdict::Sound => {
+            let h = read::header_at(file);
+            items_verdict(file, h.items as usize)
+        }
+    }
+}
+
 // What a file of any bytes says, or why it is refused.
 pub fn check(file: &[u8]) -> Checked
     ensures { λ r. ⌜ r ≡ checked (now (file .entry)) ⌝ }
 {
-    match header_verdict(file) {
+    match judge(file) {
         Verdict::Faulty(r) => Checked::Refused(told(r)),
-        Verdict::Sound => {
-            let h = read::header_at(file);
-            match items_verdict(file, h.items as usize) {
-                Verdict::Faulty(r) => Checked::Refused(told(r)),
-                Verdict::Sound => Checked::Accepted(h),
-            }
-        }
+        Verdict::Sound => Checked::Accepted(read::header_at(file)),
     }
 }

@@ -1,0 +1,47 @@
+-- A page more, at the end of a list of distinct pages. Assumes nothing.
+use Prim.Native.Nat.{ℕ, suc, _≤_}
+use mathlib.Core.Path.{_≡_, refl, sym, _∙_}
+use mathlib.Core.Bool.{true, false, _||_, or-assoc, or-false}
+use mathlib.Core.List.{List, [], _∷_, _++_, append-nil}
+use native.Mathlib.Omega.{arith}
+use lib.ListN.{length, length-append}
+use lib.Dec.{eqb}
+use Rattle.pages.specs.Pages.{has, add}
+use Rattle.pages.proofs.Choice.{split, same}
+
+-- A page is in two lists one after the other if it is in one of them.
+pub has-join : (x : ℕ) (a b : List ℕ) → has x (a ++ b) ≡ has x a || has x b
+unfolding has
+has-join x [] b = refl
+has-join x (q ∷ a) b = rw (has-join x a b) (sym (or-assoc (eqb x q) (has x a) (has x b)))
+
+module _ (p : ℕ) (l : List ℕ) where
+  -- A page that is there already changes nothing.
+  pub add-old : has p l ≡ true → add p l ≡ l
+  unfolding add
+  add-old h = rw h
+
+  -- A new one goes to the end.
+  pub add-new : has p l ≡ false → add p l ≡ l ++ (p ∷ [])
+  unfolding add
+  add-new h = rw h
+
+  -- A list with the page p has p and what it had.
+  pub has-add : (x : ℕ) → has x (add p l) ≡ has x l || eqb x p
+  unfolding has
+  has-add x =
+      split (has p l)
+      (λ h. rw (add-old h) (split (eqb x p) (λ e. rw (e, same x p e, h)) (λ e. rw e (sym (or-false (has x l))))))
+      (λ h. rw (add-new h, has-join, or-false (eqb x p)))
+
+  -- A new page makes a list longer by one.
+  pub length-new : has p l ≡ false → length (add p l) ≡ suc (length l)
+  length-new h = rw (add-new h, length-append) (omega arith)
+
+  -- A page more makes a list longer by one at most.
+  pub length-add : length (add p l) ≤ suc (length l)
+  length-add = split (has p l) (λ h. rw (add-old h) (omega arith)) (λ h. rw (length-new h) (omega arith))
+
+-- A list with a page more begins with the list.
+pub add-begins : (p : ℕ) (l : List ℕ) → (u : List ℕ) × (add p l ≡ l ++ u)
+add-begins p l = split (has p l) (λ h. ([], add-old p l h ∙ sym (append-nil l))) (λ h. (p ∷ [], add-new p l h))

@@ -1,0 +1,193 @@
+-- The second pass over a stretch: what is left of it, and the loop that has kept some of it. Assumes nothing.
+use Prim.Native.Nat.{ℕ, suc, _+_, _-_, _*_, _≤_, _<_}
+use mathlib.Core.Path.{_≡_, refl, sym, ap, _∙_}
+use mathlib.Core.Bool.{true, false, cond, or-true}
+use mathlib.Core.List.{List, [], _∷_, _++_, append-nil, append-assoc}
+use native.Mathlib.Nat.{add-zero}
+use native.Mathlib.Omega.{arith}
+use lib.ListN.{length, getD, take, length-append}
+use lib.Seq.{sets, length-take-le, take-append-seam}
+use lib.Dec.{ltb}
+use borrow.Author.Tests.{lt-ltb, le-ltb}
+use Rattle.pages.specs.Rows.{consIf}
+use Rattle.pages.specs.Pages.{has, add, place}
+use Rattle.pages.proofs.Choice.{split, eqb-self}
+use Rattle.pages.proofs.Added.{add-old, length-new, add-begins}
+use Rattle.trace.specs.Layout.{encodeItem, encodeItems, itemAt, itemsFrom}
+use Rattle.trace.specs.declared.Item.{Item}
+use Rattle.trace.proofs.Items.{from-turn, from-none}
+use Rattle.trace.proofs.Output.{Wrote, wrote-none, wrote-one, wrote-then, wrote-long}
+use Rattle.slim.specs.Epochs.{pages, touched}
+use Rattle.slim.specs.Keep.{isFirst, isLast, keeps, kept}
+use Rattle.slim.specs.Passes.{lastPlace, Noted, CanKeep, keptThere}
+use Rattle.slim.specs.declared.Mode.the-variants.{Demand}
+use Rattle.slim.proofs.Kept.{first-kept, last-kept}
+use Rattle.pages.proofs.Table.{has-taken}
+
+-- ---- the filter after a stretch begins with the filter before it
+
+-- What was seen before a row of items stands in front of what is new in it.
+touched-begins : (seen : List ℕ) (t : List Item) → (u : List ℕ) × (touched seen t ≡ seen ++ u)
+unfolding touched
+touched-begins seen [] = ([], sym (append-nil seen))
+touched-begins seen (i ∷ t) =
+    let r = touched-begins (add (i .page) seen) t in
+    let a = add-begins (i .page) seen in
+    (a .0 ++ r .0, r .1 ∙ ap (λ (l : List ℕ). l ++ r .0) (a .1) ∙ append-assoc seen (a .0) (r .0))
+
+module _ (F seen : List ℕ) (t : List Item) (h : F ≡ touched seen t) where
+  -- The filter after a stretch is as long as the one before it, or longer.
+  pub filter-grows : length seen ≤ length F
+  filter-grows = let r = touched-begins seen t in rw (h, r .1, length-append) (omega arith)
+
+  -- Its first places are the filter before the stretch.
+  pub filter-begins : take (length seen) F ≡ seen
+  filter-begins = let r = touched-begins seen t in ap (take (length seen)) (h ∙ r .1) ∙ take-append-seam seen (r .0)
+
+-- ---- what is left of a stretch
+
+-- The items v of the stretch are left, the first of which is item k, and the filter has c pages before them.
+pub record Left (F last : List ℕ) (k c : ℕ) (v : List Item) : Type 0 where
+  pub before : c ≤ length F
+  pub filter-is : F ≡ touched (take c F) v
+  pub last-noted : Noted k v F last
+
+-- A turn passes the item x and leaves v: the filter then has c′ pages, and the items a, which are x or none, are kept.
+record Turn (F last : List ℕ) (k c : ℕ) (x : Item) (v : List Item) (c′ : ℕ) (a : List Item) : Type 0 where
+  next : Left F last (k + 1) c′ v
+  kept-are : kept Demand (take c F) (x ∷ v) ≡ a ++ kept Demand (take c′ F) v
+
+module _ {F last : List ℕ} {k c : ℕ} {x : Item} {v : List Item} (l : Left F last k c (x ∷ v)) where
+  -- The filter after the stretch, from the item's page on.
+  after : F ≡ touched (add (x .page) (take c F)) v
+  unfolding touched
+  after = l .filter-is
+
+  -- A turn keeps what `keeps` says.
+  turn : {c′ : ℕ} (a : List Item) → length (add (x .page) (take c F)) ≡ c′ → ((u : List Item) → consIf (keeps Demand (take c F) x v) x u ≡ a ++ u) → Turn F last k c x v c′ a
+  unfolding has pages lastPlace kept
+  turn {c′} a e f =
+      let s = add (x .page) (take c F) in
+      let q : s ≡ take c′ F = sym (rw e at (filter-begins F s v after)) in
+      record {
+        next = record {
+          before = omega (arith, filter-grows F s v after);
+          filter-is = after ∙ ap (λ (t : List ℕ). touched t v) q;
+          last-noted = λ p h. l .last-noted p (rw (h, or-true)) ∙ rw h (omega arith);
+        };
+        kept-are = f (kept Demand s v) ∙ ap (λ (t : List ℕ). a ++ kept Demand t v) q;
+      }
+
+  module _ {j : ℕ} (q : j ≡ place (x .page) F) where
+    -- Where the number of the last item of its page is noted stands x's, unless the page comes again.
+    noted : getD last j 0 ≡ k + cond (has (x .page) (pages v)) (suc (lastPlace (x .page) v)) 0
+    unfolding has pages lastPlace
+    noted = rw q (l .last-noted (x .page) (rw eqb-self))
+
+    -- Its page is in the filter if its place is one of the first c.
+    known : has (x .page) (take c F) ≡ ltb j c
+    known = rw q (has-taken (x .page) c F (l .before))
+
+    module _ (h : j < c) where
+      old : has (x .page) (take c F) ≡ true
+      old = known ∙ lt-ltb j c h
+
+      stays : length (add (x .page) (take c F)) ≡ c
+      stays = rw (add-old (x .page) (take c F) old) (length-take-le c F (l .before))
+
+      -- An item whose page is in the filter is kept if it is the last of its page.
+      turn-last : getD last j 0 ≡ k → Turn F last k c x v c (x ∷ [])
+      turn-last e =
+          let n : has (x .page) (pages v) ≡ false = split (has (x .page) (pages v)) (λ a. absurd (omega (arith, rw a at noted))) (λ a. a) in
+          turn (x ∷ []) stays (λ u. rw (last-kept Demand (take c F) x v n))
+
+      -- Else it is not.
+      turn-skip : (getD last j 0 ≡ k → ⊥) → Turn F last k c x v c []
+      unfolding isFirst isLast keeps
+      turn-skip e =
+          let a : has (x .page) (pages v) ≡ true = split (has (x .page) (pages v)) (λ a. a) (λ n. absurd (e (rw n at noted ∙ add-zero k))) in
+          turn [] stays (λ u. rw (old, a))
+
+    -- An item whose page is not in the filter is kept.
+    turn-new : c ≤ j → Turn F last k c x v (c + 1) (x ∷ [])
+    turn-new h =
+        let n : has (x .page) (take c F) ≡ false = known ∙ le-ltb j c h in
+        turn (x ∷ []) (omega (arith, length-new (x .page) (take c F) n, length-take-le c F (l .before))) (λ u. rw (first-kept Demand (take c F) x v n))
+
+-- ---- the loop: up to item k the stretch is passed, and m items are in the output
+
+-- What is kept so far is written behind what was done, and with what is kept of the rest it is all.
+pub record Keeping (file : List ℕ) (from end held done : ℕ) (filter last out₀ : List ℕ) (k c m : ℕ) (out : List ℕ) : Type 0 where
+  pub within : k ≤ end
+  pub left : Left filter last k c (itemsFrom file k (end - k))
+  pub so-far : List Item
+  pub wrote : Wrote done so-far out₀ out
+  pub all : so-far ++ kept Demand (take c filter) (itemsFrom file k (end - k)) ≡ keptThere file from end held filter
+  pub count : m ≡ done + length so-far
+  pub few : m + from ≤ done + k
+  pub out-long : length out ≡ length out₀
+
+-- Nothing is kept yet.
+pub keeping-none : {file : List ℕ} {from end held done : ℕ} {filter last out : List ℕ} → CanKeep file from end held done filter last out
+    → Keeping file from end held done filter last out from held done out
+keeping-none {done = done} {out = out} p = record {
+  within = p .within;
+  left = record { before = p .before; filter-is = p .filter-is; last-noted = p .last-noted };
+  so-far = [];
+  wrote = wrote-none done out;
+  all = refl;
+  count = omega arith;
+  few = omega arith;
+  out-long = refl;
+}
+
+module _ {file : List ℕ} {from end held done : ℕ} {filter last out₀ : List ℕ} {k c m : ℕ} {out : List ℕ} (r : Keeping file from end held done filter last out₀ k c m out) where
+  module _ (h : k < end) {x : Item} (e : x ≡ itemAt file k) where
+    -- What is left is the item that was read, and what is left after it.
+    rest : itemsFrom file k (end - k) ≡ x ∷ itemsFrom file (k + 1) (end - (k + 1))
+    rest = rw e (from-turn file h)
+
+    here : Left filter last k c (x ∷ itemsFrom file (k + 1) (end - (k + 1)))
+    here = rw rest at (r .left)
+
+    -- A turn is done that keeps the items a.
+    passed : {c′ m′ : ℕ} {a : List Item} {out′ : List ℕ} → Turn filter last k c x (itemsFrom file (k + 1) (end - (k + 1))) c′ a → Wrote m a out out′ → m′ ≡ m + length a → length a ≤ 1
+        → Keeping file from end held done filter last out₀ (k + 1) c′ m′ out′
+    passed {a = a} t w n s = record {
+      within = omega arith;
+      left = t .next;
+      so-far = r .so-far ++ a;
+      wrote = wrote-then (r .wrote) (r .count) w;
+      all = rw (append-assoc, ← t .kept-are, ← rest) (r .all);
+      count = omega (arith, length-append (r .so-far) a);
+      few = omega arith;
+      out-long = wrote-long w ∙ r .out-long;
+    }
+
+    module _ {j : ℕ} (q : j ≡ place (x .page) filter) where
+      -- The item is neither the first nor the last of its page.
+      pub keeping-skip : j < c → (getD last j 0 ≡ k → ⊥) → Keeping file from end held done filter last out₀ (k + 1) c m out
+      keeping-skip b n = passed (turn-skip here q b n) (wrote-none m out) (omega arith) (omega arith)
+
+      module _ {out′ : List ℕ} (w : out′ ≡ sets out (23 + 19 * m) (encodeItem x)) where
+        -- The item is the last of its page, and is written.
+        pub keeping-last : j < c → getD last j 0 ≡ k → Keeping file from end held done filter last out₀ (k + 1) c (m + 1) out′
+        keeping-last b n = passed (turn-last here q b n) (wrote-one w) (omega arith) (omega arith)
+
+        -- The item is the first of its page, and is written.
+        pub keeping-new : c ≤ j → Keeping file from end held done filter last out₀ (k + 1) (c + 1) (m + 1) out′
+        keeping-new b = passed (turn-new here q b) (wrote-one w) (omega arith) (omega arith)
+
+  module _ (h : end ≤ k) where
+    -- What is kept so far is all.
+    whole : r .so-far ≡ keptThere file from end held filter
+    unfolding kept
+    whole = sym (append-nil (r .so-far)) ∙ rw (from-none file h) at (r .all)
+
+    -- As many items are written as are kept.
+    pub keeping-count : m ≡ done + length (keptThere file from end held filter)
+    keeping-count = r .count ∙ ap (λ (t : List Item). done + length t) whole
+
+    -- They stand behind what was done.
+    pub keeping-bytes : out ≡ sets out₀ (23 + 19 * done) (encodeItems (keptThere file from end held filter))
+    keeping-bytes = rw whole at (r .wrote .bytes-are)

@@ -1,0 +1,76 @@
+-- The two passes over a stretch of a trace, an epoch or a phase: what the code's functions are told, and what they leave. Assumes nothing.
+use Prim.Native.Nat.{ℕ, suc, _+_, _-_, _*_, _≤_}
+use mathlib.Core.Path.{_≡_}
+use mathlib.Core.Bool.{true, cond}
+use mathlib.Core.List.{List, [], _∷_}
+use lib.ListN.{length, getD, take}
+use Rattle.limits.proofs.Numbers.{filterMost}
+use Rattle.pages.specs.Pages.{has, place}
+use Rattle.trace.specs.Layout.{itemsFrom}
+use Rattle.trace.specs.declared.Item.{Item}
+use Rattle.slim.specs.Epochs.{pages, touched, cut}
+use Rattle.slim.specs.Keep.{kept}
+use Rattle.slim.specs.declared.Mode.{Mode}
+use Rattle.slim.specs.declared.Mode.the-variants.{FastSlim, Demand}
+use Rattle.slim.specs.declared.Reach.{Reach}
+
+-- How many pages a stretch may leave in the filter that holds some: an epoch's, or for a phase one more.
+unfoldable pub limit : Mode → ℕ → ℕ → ℕ
+limit FastSlim B held = held + 1
+limit Demand B held = B
+
+-- How many items stand before the last of page p in a row that has one.
+unfoldable pub lastPlace : ℕ → List Item → ℕ
+lastPlace p [] = 0
+lastPlace p (i ∷ t) = cond (has p (pages t)) (suc (lastPlace p t)) 0
+
+-- For each page of the row w, whose first item is item `from`, the number of its last item is noted at the page's place in the filter.
+abbrev pub Noted : ℕ → List Item → List ℕ → List ℕ → Type 0
+Noted from w filter last = (p : ℕ) → has p (pages w) ≡ true → getD last (place p filter) 0 ≡ from + lastPlace p w
+
+-- ---- the first pass
+
+-- From item `from` of n on, with a filter of `held` pages that may come to hold `most`.
+pub record CanLook (file : List ℕ) (n from most held : ℕ) (pages last : List ℕ) : Type 0 where
+  pub file-long : 23 + 19 * n ≤ length file
+  pub within : from ≤ n
+  pub holds : held ≤ most
+  pub room : most ≤ length pages
+  pub notes : most ≤ length last
+
+-- The stretch from item `from` on is found, with the filter after it and the last item of each of its pages.
+pub record Looked (file : List ℕ) (n from most : ℕ) (seen : List ℕ) (r : Reach) (pages last : List ℕ) : Type 0 where
+  pub stretch-is : (cut most seen (itemsFrom file from (n - from))) .here ≡ itemsFrom file from (r .end - from)
+  pub filter-is : take (r .held) pages ≡ touched seen (itemsFrom file from (r .end - from))
+  pub last-noted : Noted from (itemsFrom file from (r .end - from)) (take (r .held) pages) last
+
+pub record Within (n from most : ℕ) (r : Reach) : Type 0 where
+  pub begins : from ≤ r .end
+  pub ends : r .end ≤ n
+  pub holds : r .held ≤ most
+
+-- ---- the second pass
+
+-- The stretch from item `from` up to item `end`, of which the filter had `held` pages before.
+pub record CanKeep (file : List ℕ) (from end held done : ℕ) (filter last out : List ℕ) : Type 0 where
+  pub file-long : 23 + 19 * end ≤ length file
+  pub within : from ≤ end
+  pub before : held ≤ length filter
+  pub filter-is : filter ≡ touched (take held filter) (itemsFrom file from (end - from))
+  pub notes : length filter ≤ length last
+  pub last-noted : Noted from (itemsFrom file from (end - from)) filter last
+  pub room : 23 + 19 * (done + (end - from)) ≤ length out
+
+-- What is kept of it: each item that is the first of its page in the epoch, or the last of it in the stretch.
+abbrev pub keptThere : List ℕ → ℕ → ℕ → ℕ → List ℕ → List Item
+keptThere file from end held filter = kept Demand (take held filter) (itemsFrom file from (end - from))
+
+-- ---- all stretches
+
+pub record CanSlim (file : List ℕ) (n size : ℕ) (pages last out : List ℕ) : Type 0 where
+  pub file-long : 23 + 19 * n ≤ length file
+  pub some : 1 ≤ size
+  pub few : size ≤ filterMost
+  pub room : size ≤ length pages
+  pub notes : size ≤ length last
+  pub fits : 23 + 19 * n ≤ length out

@@ -1,0 +1,236 @@
+// The two reductions of a trace, FastSlim and FastSlim-Demand.
+use limits::Filter;
+use limits::FilterMade;
+use trace::Header;
+use trace::Reason;
+use trace::Refusal;
+use trace::Verdict;
+ghost use mathlib.Core.Path.{_≡_};
+ghost use Prim.Native.Nat.{_+_, _*_, _≤_};
+ghost use lib.ListN.{length, take};
+ghost use lib.Seq.{sets};
+ghost use Rattle.pages.specs.Rows.{over};
+ghost use Rattle.limits.proofs.Numbers.{filterMost};
+ghost use Rattle.trace.specs.declared.Verdict.the-variants.{Sound};
+ghost use Rattle.trace.specs.Layout.{encodeItems, itemsFrom};
+ghost use Rattle.slim.specs.Keep.{reduce as reduced};
+ghost use Rattle.slim.specs.Reduce.{isMode, modeOf, reducedHeader, reducedFile, reduceVerdict, reduceAnswer, reduceOut};
+ghost use Rattle.slim.specs.Passes.{limit, CanLook, Looked, Within, CanKeep, keptThere, CanSlim};
+
+// FastSlim, or FastSlim-Demand.
+pub enum Mode {
+    FastSlim,
+    Demand,
+}
+
+pub enum Reduced {
+    Written(Header),
+    Refused(Refusal),
+}
+
+// Where a stretch ends, and how many pages the filter then holds.
+pub struct Reach {
+    pub end: usize,
+    pub held: usize,
+}
+
+// How many pages a stretch may leave in the filter.
+fn limit_of(mode: Mode, size: usize, held: usize) -> usize
+    requires { ⌜ held ≤ filterMost ⌝ }
+    ensures { λ r. ⌜ r ≡ limit mode size held ⌝ }
+{
+    match mode {
+        Mode::FastSlim => held + 1,
+        Mode::Demand => size,
+    }
+}
+
+// First pass over a stretch: where it ends, the filter after it, and the last item of each of its pages.
+fn look(
+    file: &[u8],
+    n: usize,
+    from: usize,
+    most: usize,
+    pages: &mut [u64],
+    last: &mut [usize],
+    held: usize,
+) -> Reach
+    requires { ⌜ CanLook (now file) n from most held (now pages) (now last) ⌝ }
+    ensures { λ r. ⌜ Looked (now (file .entry)) n from most (take held (now (pages .entry))) r (now (pages .exit)) (now (last .exit)) ⌝ }
+    ensures { λ r. ⌜ Within n from most r ⌝ }
+{
+    let mut k = from;
+    let mut c = held;
+    while k < n {
+        let x = trace::read::item_at(file, k);
+        let j = pages::find(&pages[0..c], x.page);
+        if j < c {
+            last[j] = k;
+            k += 1;
+        } else {
+            if most <= c {
+                return Reach { end: k, held: c };
+            }
+            pages[c] = x.page;
+            last[c] = k;
+            c += 1;
+            k += 1;
+        }
+    }
+    Reach { end: k, held: c }
+}
+
+// Second pass: writes each item that is the first of its page in the epoch, or the last of it in the stretch.
+fn keep(
+    file: &[u8],
+    from: usize,
+    end: usize,
+    filter: &[u64],
+    last: &[usize],
+    held: usize,
+    out: &mut [u8],
+    done: usize,
+) -> usize
+    requires { ⌜ CanKeep (now file) from end held done (now filter) (now last) (now out) ⌝ }
+    ensures { λ r. ⌜ r ≡ done + length (keptThere (now (file .entry)) from end held (now (filter .entry))) ⌝ }
+    ensures { λ _. ⌜ now (out .exit) ≡ sets (now (out .entry)) (23 + 19 * done) (encodeItems (keptThere (now (file .entry)) from end held (now (filter .entry)))) ⌝ }
+{
+    let mut k = from;
+    let mut c = held;
+    let mut m = done;
+    while k < end {
+        let x = trace::read::item_at(file, k);
+        let j = pages::find(filter, x.page);
+        if j < c {
+            if last[j] == k {
+                trace::write::item(out, m, x);
+                m += 1;
+                k += 1;
+            } else {
+                k += 1;
+            }
+        } else {
+            trace::write::item(out, m, x);
+            c += 1;
+            m += 1;
+            k += 1;
+        }
+    }
+    m
+}
+
+// All stretches, one after the other: the filter is emptied when it is full.
+fn slim(
+    file: &[u8],
+    n: usize,
+    mode: Mode,
+    size: usize,
+    pages: &mut [u64],
+    last: &mut [usize],
+    out: &mut [u8],
+) -> usize
+    requires { ⌜ CanSlim (now file) n size (now pages) (now last) (now out) ⌝ }
+    ensures { λ r. ⌜ r ≡ length (reduced mode size (itemsFrom (now (file .entry)) 0 n)) ⌝ }
+    ensures { λ _. ⌜ now (out .exit) ≡ sets (now (out .entry)) 23 (encodeItems (reduced mode size (itemsFrom (now (file .entry)) 0 n))) ⌝ }
+{
+    let mut i = 0;
+    let mut held = 0;
+    let mut m = 0;
+    while i < n {
+        let most = limit_of(mode, size, held);
+        let s = look(file, n, i, most, pages, last, held);
+        let end = s.end;
+        let c = s.held;
+        m = keep(file, i, end, &pages[0..c], last, held, out, m);
+        i = end;
+        if c == size {
+            held = 0;
+        } else {
+            held = c;
+        }
+    }
+    m
+}
+
+fn is_mode(mode: u64) -> bool
+    ensures { λ r. ⌜ r ≡ isMode mode ⌝ }
+{
+    if mode == 1 {
+        return true;
+    }
+    mode == 2
+}
+
+fn mode_of(mode: u64) -> Mode
+    ensures { λ r. ⌜ r ≡ modeOf mode ⌝ }
+{
+    if mode == 1 {
+        return Mode::FastSlim;
+    }
+    Mode::Demand
+}
+
+// Refusals 1 to 6, 7, 8, 11, 14.
+fn judge(file: &[u8], mode: u64, size: u64, room: usize) -> Verdict
+    ensures { λ r. ⌜ r ≡ reduceVerdict (now (file .entry)) mode size room ⌝ }
+{
+    if let Verdict::Faulty(r) = trace::judge(file) {
+        return Verdict::Faulty(r);
+    }
+    if !is_mode(mode) {
+        return Verdict::Faulty(Reason::BadSetting);
+    }
+    if let FilterMade::Outside = Filter::new(size) {
+        return Verdict::Faulty(Reason::BadSetting);
+    }
+    let h = trace::read::header_at(file);
+    if h.kind != 0 {
+        return Verdict::Faulty(Reason::NotWhole);
+    }
+    if room < file.len() {
+        return Verdict::Faulty(Reason::NoRoom);
+    }
+    // Kept items stand in file order, so 14 never occurs: that is proved, and nothing is tested.
+    let none = Verdict::Sound;
+    none
+}
+
+// The reduced file, written.
+fn write_reduced(file: &[u8], mode: u64, size: u64, out: &mut [u8]) -> Header
+    requires { ⌜ reduceVerdict (now file) mode size (length (now out)) ≡ Sound ⌝ }
+    ensures { λ r. ⌜ r ≡ reducedHeader (now (file .entry)) mode size ⌝ }
+    ensures { λ _. ⌜ now (out .exit) ≡ over (reducedFile (now (file .entry)) mode size) (now (out .entry)) ⌝ }
+{
+    let mut pages = [0u64; Filter::PLACES];
+    let mut last = [0usize; Filter::PLACES];
+    let h = trace::read::header_at(file);
+    let n = h.items as usize;
+    let m = slim(
+        file,
+        n,
+        mode_of(mode),
+        size as usize,
+        &mut pages,
+        &mut last,
+        out,
+    );
+    let w = Header {
+        kind: mode,
+        filter: size,
+        references: h.references,
+        items: m as u64,
+    };
+    trace::write::header(out, w);
+    w
+}
+
+// Writes to the output the items of a whole trace that the mode keeps, with its filter size, and answers the header written; or refuses, and changes nothing.
+pub fn reduce(file: &[u8], mode: u64, size: u64, out: &mut [u8]) -> Reduced
+    ensures { λ r. ⌜ r ≡ reduceAnswer (now (file .entry)) mode size (length (now (out .entry))) ⌝ }
+    ensures { λ _. ⌜ now (out .exit) ≡ reduceOut (now (file .entry)) mode size (now (out .entry)) ⌝ }
+{
+    match judge(file, mode, size, out.len()) {
+        Verdict::Faulty(r) => Reduced::Refused(trace::told(r)),
+        Verdict::Sound => Reduced::Written(write_reduced(file, mode, size, out)),
+    }
+}
