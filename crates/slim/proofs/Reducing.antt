@@ -22,7 +22,7 @@ use Rattle.trace.specs.declared.Reason.{Reason}
 use Rattle.trace.specs.declared.Refusal.{Refusal}
 use Rattle.trace.specs.declared.Verdict.{Verdict}
 use Rattle.trace.specs.declared.Verdict.the-variants.{Sound, Faulty}
-use Rattle.trace.proofs.Sound.{first-passed, then-both}
+use Rattle.trace.proofs.Sound.{first-passed, then-both, elim-then}
 use Rattle.trace.proofs.Checking.{sound-file}
 use Rattle.trace.proofs.Items.{items-from, length-from}
 use Rattle.trace.proofs.Output.{Wrote, wrote-file}
@@ -45,12 +45,8 @@ pub record Reducible (f : List ℕ) (mode size room : ℕ) : Type 0 where
   pub fits : length f ≤ room
 
 reduce-then : (f : List ℕ) (mode size room : ℕ) → reduceVerdict f mode size room ≡ (verdict f then first (reduceTests f mode size room))
-unfolding reduceVerdict _then_
-reduce-then f mode size room = go (verdict f) (first (reduceTests f mode size room))
-  where
-    go : (v w : Verdict) → elim v [ Sound ↦ w | Faulty r ↦ Faulty r ] ≡ (v then w)
-    go Sound w = refl
-    go (Faulty r) w = refl
+unfolding reduceVerdict
+reduce-then f mode size room = elim-then (verdict f) (first (reduceTests f mode size room))
 
 pub sound-reducible : (f : List ℕ) (mode size room : ℕ) → reduceVerdict f mode size room ≡ Sound → Reducible f mode size room
 sound-reducible f mode size room e =

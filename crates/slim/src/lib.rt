@@ -187,12 +187,11 @@ fn judge(file: &[u8], mode: u64, size: u64, room: usize) -> Verdict
     if h.kind != 0 {
         return Verdict::Faulty(Reason::NotWhole);
     }
-    if room < file.len() {
-        return Verdict::Faulty(Reason::NoRoom);
-    }
     // Kept items stand in file order, so 14 never occurs: that is proved, and nothing is tested.
-    let none = Verdict::Sound;
-    none
+    if file.len() <= room {
+        return Verdict::Sound;
+    }
+    Verdict::Faulty(Reason::NoRoom)
 }
 
 // The reduced file, written.

@@ -93,14 +93,16 @@ pub record SoundFile (f : List ℕ) (h : Header) : Type 0 where
   pub long : length f ≡ 23 + 19 * h .items
   pub items-sound : itemsVerdict 0 0 (h .items) (drop 23 f) ≡ Sound
 
+-- Where one verdict is sound another is looked for: that is the one and then the other.
+pub elim-then : (v w : Verdict) → elim v [ Sound ↦ w | Faulty r ↦ Faulty r ] ≡ (v then w)
+unfolding _then_
+elim-then Sound w = refl
+elim-then (Faulty r) w = refl
+
 -- A file's verdict is the header's, and then the items'.
 pub verdict-then : (f : List ℕ) → verdict f ≡ (first (headerTests f) then itemsVerdict 0 0 (header f .items) (drop 23 f))
-unfolding verdict _then_
-verdict-then f = go (first (headerTests f)) (itemsVerdict 0 0 (header f .items) (drop 23 f))
-  where
-    go : (v w : Verdict) → elim v [ Sound ↦ w | Faulty r ↦ Faulty r ] ≡ (v then w)
-    go Sound w = refl
-    go (Faulty r) w = refl
+unfolding verdict
+verdict-then f = elim-then (first (headerTests f)) (itemsVerdict 0 0 (header f .items) (drop 23 f))
 
 -- An answer accepts a header only for a sound verdict, and it is the header given.
 accepts : (g h : Header) (v : Verdict) → answer g v ≡ Accepted h → (g ≡ h) × (v ≡ Sound)

@@ -1,0 +1,10 @@
+pub mod Counting
+pub mod Judging
+pub mod Once
+pub mod Online
+pub mod Replaying
+pub mod Room
+pub mod Starting
+pub mod Steps
+pub mod Traces
+pub mod Turns
