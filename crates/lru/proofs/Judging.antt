@@ -8,14 +8,14 @@ use lib.ListN.{length, take}
 use lib.Dec.{leb, ltb}
 use mir.Syntax.{w64}
 use mir.Val.{Fits}
-use borrow.Author.Tests.{lt-ltb, le-ltb, leb-true, ltb-false, not-false}
+use borrow.Author.Tests.{lt-ltb, le-ltb, le-leb, leb-true, ltb-false, not-false}
 use Rattle.limits.specs.Sizes.{between, cacheOf}
 use Rattle.limits.specs.declared.Cache.{Cache}
 use Rattle.limits.specs.declared.CacheMade.{CacheMade}
 use Rattle.limits.specs.declared.CacheMade.the-variants as cache
 use Rattle.limits.proofs.Numbers.{cacheLeast, cacheMost}
 use Rattle.limits.proofs.Made.{cache-ready, cache-outside}
-use Rattle.pages.proofs.Choice.{and-true, or-false}
+use Rattle.pages.proofs.Choice.{and-true, and-both, or-false}
 use Rattle.trace.specs.Layout.{header}
 use Rattle.trace.specs.Verdict.{first, _then_}
 use Rattle.trace.specs.Check.{verdict}
@@ -24,7 +24,7 @@ use Rattle.trace.specs.declared.Reason.{Reason}
 use Rattle.trace.specs.declared.Verdict.{Verdict}
 use Rattle.trace.specs.declared.Verdict.the-variants.{Sound, Faulty}
 use Rattle.trace.proofs.Allowed.{allowed-facts}
-use Rattle.trace.proofs.Sound.{first-passed, then-both, elim-then}
+use Rattle.trace.proofs.Sound.{first-passed, passed-first, then-both, both-then, elim-then}
 use Rattle.trace.proofs.Checking.{sound-file}
 use Rattle.lru.specs.Tally.{perMillion}
 use Rattle.lru.specs.Replay.{badStart, replayTests, replayVerdict}
@@ -109,6 +109,15 @@ sound-playable f K start resident room e =
       places = ltb-false (length start) K few;
       fits = ltb-false room (3 * header f .items) r;
     }
+
+-- And such a replay is not refused.
+pub playable-sound : (f : List ℕ) (K : ℕ) (start : List ℕ) (resident room : ℕ) → Playable f K start resident room → replayVerdict f K start resident room ≡ Sound
+playable-sound f K start resident room p =
+    let c : between cacheLeast cacheMost K ≡ true = and-both (leb cacheLeast K) (leb K cacheMost) (le-leb cacheLeast K (p .least)) (le-leb K cacheMost (p .most)) in
+    replay-then f K start resident room
+    ∙ both-then (verdict f) (first (replayTests f K start resident room)) (p .file-is)
+    (passed-first (replayTests f K start resident room)
+    (rw c, (le-ltb K (header f .filter) (p .filter-fits), (p .start-is, (le-ltb room (3 * header f .items) (p .fits), tt)))))
 
 -- ---- per million
 

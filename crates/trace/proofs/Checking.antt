@@ -15,7 +15,7 @@ use Rattle.trace.specs.declared.Reason.{Reason}
 use Rattle.trace.specs.declared.Verdict.{Verdict}
 use Rattle.trace.specs.declared.Verdict.the-variants.{Sound, Faulty}
 use Rattle.trace.specs.declared.Checked.the-variants.{Accepted, Refused}
-use Rattle.trace.proofs.Sound.{Passed, first-passed, verdict-then, SoundFile, accepted-sound}
+use Rattle.trace.proofs.Sound.{Passed, first-passed, verdict-then, SoundFile, accepts, accepted-sound}
 
 -- ---- the header's verdict, and then the items'
 
@@ -65,3 +65,8 @@ sound-file f s = accepted-sound f (header f) (sym (check-sound f refl s refl))
 -- So its header can be read.
 pub sound-long : (f : List ℕ) {v : Verdict} → v ≡ verdict f → v ≡ Sound → 23 ≤ length f
 sound-long f e s = omega (arith, sound-file f (sym e ∙ s) .long)
+
+-- A file that is accepted is sound.
+pub accepted-verdict : (f : List ℕ) (h : Header) → checked f ≡ Accepted h → verdict f ≡ Sound
+unfolding checked
+accepted-verdict f h e = accepts (header f) h (verdict f) e .1

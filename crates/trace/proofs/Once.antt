@@ -48,7 +48,7 @@ pub is-field-once : OneResult is-field.ps is-field.r is-field-post
 is-field-once κs args x y s t p q = p ∙ sym q
 
 pub header-at-once : OneResult header-at.ps header-at.r header-at-post
-header-at-once κs args x y s t p q = p ∙ sym q
+header-at-once κs args x y s t p q = p .0 ∙ sym (q .0)
 
 pub item-at-once : OneResult item-at.ps item-at.r item-at-post
 item-at-once κs args x y s t p q = p ∙ sym q

@@ -105,7 +105,7 @@ unfolding verdict
 verdict-then f = elim-then (first (headerTests f)) (itemsVerdict 0 0 (header f .items) (drop 23 f))
 
 -- An answer accepts a header only for a sound verdict, and it is the header given.
-accepts : (g h : Header) (v : Verdict) → answer g v ≡ Accepted h → (g ≡ h) × (v ≡ Sound)
+pub accepts : (g h : Header) (v : Verdict) → answer g v ≡ Accepted h → (g ≡ h) × (v ≡ Sound)
 unfolding answer
 accepts g h Sound e = (cc, refl)
 accepts g h (Faulty r) e =

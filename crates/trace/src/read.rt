@@ -3,7 +3,7 @@ use super::Header;
 use super::Item;
 use super::numbers;
 ghost use mathlib.Core.Path.{_≡_};
-ghost use Prim.Native.Nat.{_+_, _*_, _≤_};
+ghost use Prim.Native.Nat.{_+_, _*_, _≤_, _<_};
 ghost use lib.ListN.{length};
 ghost use Rattle.trace.specs.Layout.{header, itemAt};
 ghost use Rattle.trace.specs.Check.{isField};
@@ -22,6 +22,7 @@ pub fn is_field(s: &[u8], at: usize, tag: u64, len: u64) -> bool
 pub fn header_at(file: &[u8]) -> Header
     requires { ⌜ 23 ≤ length (now file) ⌝ }
     ensures { λ r. ⌜ r ≡ header (now (file .entry)) ⌝ }
+    ensures { λ r. ⌜ (r .references < 4294967296) × (r .items < 4294967296) ⌝ }
 {
     Header {
         kind: numbers::u8_at(file, 3),
