@@ -7,15 +7,8 @@ use lib.ListN.{length}
 use lib.Seq.{sets}
 use Rattle.trace.specs.Layout.{itemAt, itemsFrom, encodeItem, encodeItems}
 use Rattle.trace.specs.declared.Item.{Item}
-use Rattle.trace.proofs.Items.{length-from, from-none, from-more}
+use Rattle.trace.proofs.Items.{length-from, from-none, first-more}
 use Rattle.trace.proofs.Output.{Wrote, wrote-none, wrote-one, wrote-then, wrote-long}
-
--- One item more of a file.
-pub one-more : (file : List ℕ) (i : ℕ) → itemsFrom file 0 (i + 1) ≡ itemsFrom file 0 i ++ (itemAt file i ∷ [])
-one-more file i =
-    let e : i + 1 - 0 ≡ i + 1 = omega arith in
-    let d : i - 0 ≡ i = omega arith in
-    rw (e, d) at (from-more file {i = 0} {k = i} (omega arith))
 
 -- The first i of n items are copied behind `at` items of the output.
 pub record Copying (file : List ℕ) (n at : ℕ) (old : List ℕ) (i : ℕ) (new : List ℕ) : Type 0 where
@@ -33,7 +26,7 @@ module _ {file : List ℕ} {n at : ℕ} {old : List ℕ} {i : ℕ} {new : List �
   pub copying-more : i < n → {x : Item} → x ≡ itemAt file i → {next : List ℕ} → next ≡ sets new (23 + 19 * (at + i)) (encodeItem x) → Copying file n at old (i + 1) next
   copying-more h {x} e {next} p =
       let one : Wrote (at + i) (itemAt file i ∷ []) new next = rw (← e) (wrote-one p) in
-      let w : Wrote at (itemsFrom file 0 (i + 1)) old next = rw (one-more file i) (wrote-then (k .wrote) (omega (arith, length-from file 0 i)) one) in
+      let w : Wrote at (itemsFrom file 0 (i + 1)) old next = rw (first-more file i) (wrote-then (k .wrote) (omega (arith, length-from file 0 i)) one) in
       record { within = omega arith; wrote = w; long = wrote-long w }
 
   -- All items are copied.

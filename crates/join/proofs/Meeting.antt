@@ -10,9 +10,8 @@ use borrow.Author.Tests.{ltb-false, lt-ltb}
 use Rattle.trace.specs.Layout.{header, itemAt, itemsOf, itemsFrom, items}
 use Rattle.trace.specs.Rules.{ItemsFit, Rising}
 use Rattle.trace.specs.declared.Item.{Item}
-use Rattle.trace.proofs.Items.{items-from, from-next}
+use Rattle.trace.proofs.Items.{items-from, from-next, first-more}
 use Rattle.join.specs.Join.{meetsFalling}
-use Rattle.join.proofs.Copying.{one-more}
 
 -- Items that fit, and then others.
 pub fit-append : (a b : List Item) → ItemsFit a → ItemsFit b → ItemsFit (a ++ b)
@@ -39,7 +38,7 @@ rising-both : (f g : List ℕ) (n m : ℕ) → Rising 0 (itemsFrom f 0 n) → Ri
     → ltb 0 n && (ltb 0 m && ltb (itemAt g 0 .time) (itemAt f (n - 1) .time)) ≡ false → Rising 0 (itemsFrom f 0 n ++ itemsFrom g 0 m)
 rising-both f g zero m p q e = unfold itemsFrom in unfold itemsOf in q
 rising-both f g (suc n) m p q e =
-    let s : itemsFrom f 0 (suc n) ≡ itemsFrom f 0 n ++ (itemAt f n ∷ []) = rw add-one at (one-more f n) in
+    let s : itemsFrom f 0 (suc n) ≡ itemsFrom f 0 n ++ (itemAt f n ∷ []) = rw add-one at (first-more f n) in
     let d : suc n - 1 ≡ n = omega arith in
     rw s (rising-append 0 (itemsFrom f 0 n) (itemAt f n) (itemsFrom g 0 m) (rw s at p) (rising-after g (itemAt f n .time) m q (rw (some n, d) at e)))
 

@@ -6,5 +6,5 @@ pub mod Replaying
 pub mod Room
 pub mod Starting
 pub mod Steps
-pub mod Traces
 pub mod Turns
+pub mod Words

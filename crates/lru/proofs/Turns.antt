@@ -2,14 +2,14 @@
 use Prim.Native.Nat.{ℕ, _+_, _*_, _≤_, _<_}
 use mathlib.Core.Path.{_≡_, refl, sym, _∙_}
 use mathlib.Core.List.{List, _++_}
-use native.Mathlib.Nat.{zero-add}
 use native.Mathlib.Omega.{arith}
-use lib.ListN.{length, take, length-append, take-append-drop}
-use lib.Seq.{sets, length-take-le}
+use lib.ListN.{length, take, take-append-drop}
+use lib.Seq.{length-take-le}
 use Rattle.pages.specs.Rows.{over}
-use Rattle.pages.proofs.Rows.{sets-append, sets-over, over-over, take-over}
+use Rattle.pages.proofs.Rows.{over-over, over-more, take-over}
 use Rattle.trace.specs.Layout.{itemAt, itemsOf, itemsFrom}
 use Rattle.trace.specs.declared.Item.{Item}
+use Rattle.trace.proofs.Items.{first-more}
 use Rattle.lru.specs.Lru.{Outcome, step, _then_, replay, words}
 use Rattle.lru.specs.Tally.{nothing, countedOf, isFetch, tallied, tally}
 use Rattle.lru.specs.Passes.{Stepped, Moved, CanRun, Ran}
@@ -18,14 +18,9 @@ use Rattle.lru.specs.declared.Effect.{Effect}
 use Rattle.lru.specs.declared.Finish.{Finish}
 use Rattle.lru.proofs.Counting.{one-most, step-flagged, tally-counts}
 use Rattle.lru.proofs.Online.{replay-more, tally-more}
-use Rattle.lru.proofs.Traces.{words-append, length-words, items-more}
+use Rattle.lru.proofs.Words.{words-append, length-words}
 
 -- ---- one outcome after another, in the buffers
-
--- A row written over a buffer, and another stored after it.
-over-more : {A : Type 0} (w v d : List A) → length w + length v ≤ length d → sets (over w d) (length w) v ≡ over (w ++ v) d
-over-more w v d h =
-    rw (← sets-over w d (omega arith), ← sets-over (w ++ v) d (rw length-append h), sets-append d 0 w v, zero-add)
 
 -- An outcome stands in the buffers, and an item's outcome after it: so do both, one after the other.
 ran-then : {o p : Outcome} {c : Tally} {r : Finish} {e : Effect} {cache events cache′ events′ cache″ events″ : List ℕ}
@@ -105,7 +100,7 @@ module _ {f : List ℕ} {n K m₀ : ℕ} {cache₀ events₀ cache events : List
       let l : 3 * (length ((replay K s u) .events) + length (p .events)) ≤ length events₀ = omega (arith, step-flagged K S x .fetches-are, one-most (isFetch (p .events))) in
       record {
         within = omega arith;
-        done = rw (items-more f i, ← q, replay-more K s u x, tally-more K s nothing u x, w) (ran-then (r .done) g′ c (omega arith) l);
+        done = rw (first-more f i, ← q, replay-more K s u x, tally-more K s nothing u x, w) (ran-then (r .done) g′ c (omega arith) l);
         room = v .within;
         items-are = rw w (omega arith);
         fetched = rw w (omega (arith, one-most (e .fetched)));

@@ -69,6 +69,10 @@ module _ {A : Type 0} where
       let e : length t ≡ length s + k = omega arith in
       rw (e, drop-append-add, drop-drop)
 
+  -- A row written over the front, and another behind it.
+  pub over-more : (w v d : List A) → length w + length v ≤ length d → sets (over w d) (length w) v ≡ over (w ++ v) d
+  over-more w v d h = rw (← sets-over w d (omega arith), ← sets-over (w ++ v) d (rw length-append h), sets-append d 0 w v, zero-add)
+
   pub length-over : (s d : List A) → length s ≤ length d → length (over s d) ≡ length d
   unfolding over
   length-over s d h = simp (length-append, length-drop) (omega arith)

@@ -1,0 +1,177 @@
+-- The paper's worked examples, one list and one theorem, by computation. Assumes nothing.
+use Prim.Native.Nat.{ℕ, _*_}
+use mathlib.Core.Path.{_≡_, refl}
+use mathlib.Core.List.{List, [], _∷_, map}
+use lib.ListN.{length, take, drop, replicate}
+use Rattle.pages.specs.Rows.{flat, over}
+use Rattle.pages.specs.Pages.{has, add, remove}
+use Rattle.trace.specs.Bytes.{number, numberAt, bytes}
+use Rattle.trace.specs.Layout.{field, encodeHeader, encodeItem, encodeItems, encode, header, item, itemsOf, items}
+use Rattle.trace.specs.Rules.{allowed}
+use Rattle.trace.specs.Verdict.{first}
+use Rattle.trace.specs.Verdict as verdicts
+use Rattle.trace.specs.Check.{isField, itemsVerdict, verdict}
+use Rattle.trace.specs.Examples.{_at_, T, whole, fileT}
+use Rattle.trace.specs.declared.Item.{Item}
+use Rattle.slim.specs.Epochs.{pages, cut, epochs}
+use Rattle.slim.specs.Keep.{isFirst, isLast, phase, keeps, kept, reduce}
+use Rattle.slim.specs.Reduce.{isMode, modeOf, keptOf, reducedHeader, reducedFile, falls, reduceVerdict, reduceAnswer}
+use Rattle.slim.specs.declared.Reduced.{Reduced}
+use Rattle.slim.specs.declared.Reduced.the-variants as reductions
+use Rattle.join.specs.Join.{joinedKind, joinedHeader, joinedFile}
+use Rattle.lru.specs.Lru.{hit, fetch, step, _then_, replay, word, words}
+use Rattle.lru.specs.Tally.{isFetch, isEviction, tallied, tally, perMillion}
+use Rattle.lru.specs.Replay.{twice, badStart, replayVerdict, replayOf, summaryOf, replayAnswer, cacheAfter, eventsAfter}
+use Rattle.lru.specs.declared.Replayed.{Replayed}
+use Rattle.lru.specs.declared.Replayed.the-variants as replays
+
+-- One example of the paper: what the definitions compute, and what the paper says.
+pub record Example : Type 0 where
+  pub found : List ℕ
+  pub paper : List ℕ
+
+infix 10 _says_
+abbrev pub _says_ : List ℕ → List ℕ → Example
+found says paper = record { found = found; paper = paper }
+
+-- ---- files
+
+-- Items as a whole file.
+abbrev pub file : List Item → List ℕ
+file t = encode (whole (length t)) t
+
+-- A file reduced by FastSlim-Demand, and by FastSlim, with the filter size B.
+abbrev pub demand : ℕ → List ℕ → List ℕ
+demand B f = reducedFile f 2 B
+
+abbrev pub fastslim : ℕ → List ℕ → List ℕ
+fastslim B f = reducedFile f 1 B
+
+-- T cut after time 70, each part a whole file reduced by demand with B = 2, and the two joined.
+abbrev pub before : List ℕ
+before = file (take 7 T)
+
+abbrev pub after : List ℕ
+after = file (drop 7 T)
+
+abbrev pub rejoined : List ℕ
+rejoined = joinedFile (demand 2 before) (demand 2 after)
+
+-- Page 7 five times, and once; and pages 1, 2, 1, all at time 5.
+abbrev pub sevens : List ℕ
+sevens = file (7 at 1 ∷ 7 at 2 ∷ 7 at 3 ∷ 7 at 4 ∷ 7 at 5 ∷ [])
+
+abbrev pub seven : List ℕ
+seven = file (7 at 1 ∷ [])
+
+abbrev pub ties : List ℕ
+ties = file (1 at 5 ∷ 2 at 5 ∷ 1 at 5 ∷ [])
+
+-- ---- answers as numbers
+
+-- The times of the items of a file, and their pages.
+abbrev pub times : List ℕ → List ℕ
+times f = map (λ (i : Item). i .time) (items f)
+
+abbrev pub pagesOf : List ℕ → List ℕ
+pagesOf f = map (λ (i : Item). i .page) (items f)
+
+-- The length of a file.
+abbrev pub size : List ℕ → List ℕ
+size f = length f ∷ []
+
+-- The answer of a reduction: 0 and the four header values, or the refusal, whose number is not 0.
+abbrev pub reduction : Reduced → List ℕ
+reduction a =
+    elim a [
+      | reductions.Written h ↦ 0 ∷ h .kind ∷ h .filter ∷ h .references ∷ h .items ∷ []
+      | reductions.Refused r ↦ r .number ∷ r .trace ∷ r .item ∷ []
+    ]
+
+-- The answer of a replay: 0 and items, fetches, evictions, resident pages and fetches per million; or the refusal, whose number is not 0, and the resident count.
+abbrev pub told : Replayed → List ℕ
+told a =
+    elim a [
+      | replays.Done s ↦ 0 ∷ s .items ∷ s .fetches ∷ s .evictions ∷ s .resident ∷ s .permillion ∷ []
+      | replays.Refused r n ↦ r .number ∷ r .trace ∷ r .item ∷ n ∷ []
+    ]
+
+-- An empty cache with room for K pages, and 36 places for events, three for each item of T.
+abbrev pub empty : ℕ → List ℕ
+empty K = replicate K 0
+
+abbrev pub places : List ℕ
+places = replicate 36 0
+
+-- From the empty cache: the answer, the three numbers that each fetch writes, and the cache afterwards.
+abbrev pub answer : ℕ → List ℕ → List ℕ
+answer K f = told (replayAnswer f K (empty K) 0 (length places))
+
+abbrev pub fetches : ℕ → List ℕ → List ℕ
+fetches K f = take (3 * (summaryOf f K (empty K) 0) .fetches) (eventsAfter f K (empty K) 0 places)
+
+abbrev pub leaves : ℕ → List ℕ → List ℕ
+leaves K f = cacheAfter f K (empty K) 0 (length places)
+
+-- ---- the examples
+
+abbrev pub examples : List Example
+examples =
+    -- "Demand, B = 2 keeps times 10, 40, 50, 60, 80, 100, 110, 120; the file is 175 bytes."
+    (times (demand 2 fileT) says 10 ∷ 40 ∷ 50 ∷ 60 ∷ 80 ∷ 100 ∷ 110 ∷ 120 ∷ [])
+    ∷ (reduction (reduceAnswer fileT 2 2 (length fileT)) says 0 ∷ 2 ∷ 2 ∷ 12 ∷ 8 ∷ [])
+    ∷ (size (demand 2 fileT) says 175 ∷ [])
+    -- "FastSlim, B = 2 keeps 10, 30, 40, 50, 60, 70, 80, 100, 110, 120."
+    ∷ (times (fastslim 2 fileT) says 10 ∷ 30 ∷ 40 ∷ 50 ∷ 60 ∷ 70 ∷ 80 ∷ 100 ∷ 110 ∷ 120 ∷ [])
+    -- "Demand, B = 4 keeps 10, 40, 60, 80, 100, 120; K = 4 ends with pages 1, 3, 4, 2 from either trace."
+    ∷ (times (demand 4 fileT) says 10 ∷ 40 ∷ 60 ∷ 80 ∷ 100 ∷ 120 ∷ [])
+    ∷ (leaves 4 fileT says 1 ∷ 3 ∷ 4 ∷ 2 ∷ [])
+    ∷ (leaves 4 (demand 4 fileT) says 1 ∷ 3 ∷ 4 ∷ 2 ∷ [])
+    -- "K = 2 on the B = 2 demand file: the five fetch lines above, per million 625000."
+    ∷ (fetches 2 (demand 2 fileT) says
+    10 ∷ 1 ∷ 18446744073709551615 ∷ 40 ∷ 2 ∷ 18446744073709551615 ∷ 60 ∷ 3 ∷ 2 ∷ 80 ∷ 4 ∷ 1 ∷ 110 ∷ 1 ∷ 4 ∷ [])
+    ∷ (answer 2 (demand 2 fileT) says 0 ∷ 8 ∷ 5 ∷ 3 ∷ 2 ∷ 625000 ∷ [])
+    -- Replay of T as a whole file with cache size 2: the lines that the paper prints whole.
+    ∷ (fetches 2 fileT says
+    10 ∷ 1 ∷ 18446744073709551615 ∷ 40 ∷ 2 ∷ 18446744073709551615 ∷ 60 ∷ 3 ∷ 2 ∷ 80 ∷ 4 ∷ 1 ∷ 110 ∷ 1 ∷ 4 ∷ [])
+    ∷ (answer 2 fileT says 0 ∷ 12 ∷ 5 ∷ 3 ∷ 2 ∷ 416666 ∷ [])
+    ∷ (leaves 2 fileT says 1 ∷ 3 ∷ [])
+    -- "K = 3 on T: fetches at 10, 40, 60, 80; only page 2 evicted, at 80."
+    ∷ (fetches 3 fileT says
+    10 ∷ 1 ∷ 18446744073709551615 ∷ 40 ∷ 2 ∷ 18446744073709551615 ∷ 60 ∷ 3 ∷ 18446744073709551615 ∷ 80 ∷ 4 ∷ 2 ∷ [])
+    -- "K = 1 on T: 7 fetches, 6 evictions. On the B = 2 demand file: refused 9."
+    ∷ (take 4 (answer 1 fileT) says 0 ∷ 12 ∷ 7 ∷ 6 ∷ [])
+    ∷ (answer 1 (demand 2 fileT) says 9 ∷ 1 ∷ 0 ∷ 0 ∷ [])
+    -- "T cut after time 70, each part reduced by demand with B = 2: 5 and 5 items; the join replays at K = 2 with the same five fetch lines, per million 500000."
+    ∷ (reduction (reduceAnswer before 2 2 (length before)) says 0 ∷ 2 ∷ 2 ∷ 7 ∷ 5 ∷ [])
+    ∷ (reduction (reduceAnswer after 2 2 (length after)) says 0 ∷ 2 ∷ 2 ∷ 5 ∷ 5 ∷ [])
+    ∷ (fetches 2 rejoined says
+    10 ∷ 1 ∷ 18446744073709551615 ∷ 40 ∷ 2 ∷ 18446744073709551615 ∷ 60 ∷ 3 ∷ 2 ∷ 80 ∷ 4 ∷ 1 ∷ 110 ∷ 1 ∷ 4 ∷ [])
+    ∷ (answer 2 rejoined says 0 ∷ 10 ∷ 5 ∷ 3 ∷ 2 ∷ 500000 ∷ [])
+    -- "Page 7 five times, B = 1: first and last kept. One item: kept once."
+    ∷ (times (demand 1 sevens) says 1 ∷ 5 ∷ [])
+    ∷ (times (fastslim 1 sevens) says 1 ∷ 5 ∷ [])
+    ∷ (times (demand 1 seven) says 1 ∷ [])
+    ∷ (times (fastslim 1 seven) says 1 ∷ [])
+    -- "Pages 1, 2, 1, all at time 5, B = 2: all kept, in that order."
+    ∷ (pagesOf (demand 2 ties) says 1 ∷ 2 ∷ 1 ∷ [])
+    ∷ (times (demand 2 ties) says 5 ∷ 5 ∷ 5 ∷ [])
+    ∷ (pagesOf (fastslim 2 ties) says 1 ∷ 2 ∷ 1 ∷ [])
+    ∷ (times (fastslim 2 ties) says 5 ∷ 5 ∷ 5 ∷ [])
+    -- "An empty whole trace is 23 bytes, reduces to 23 bytes and, from an empty cache, replays to 0 everywhere."
+    ∷ (size (file []) says 23 ∷ [])
+    ∷ (reduction (reduceAnswer (file []) 2 2 (length (file []))) says 0 ∷ 2 ∷ 2 ∷ 0 ∷ 0 ∷ [])
+    ∷ (size (demand 2 (file [])) says 23 ∷ [])
+    ∷ (size (fastslim 2 (file [])) says 23 ∷ [])
+    ∷ (answer 2 (file []) says 0 ∷ 0 ∷ 0 ∷ 0 ∷ 0 ∷ 0 ∷ [])
+    ∷ (fetches 2 (file []) says [])
+    ∷ []
+
+-- Every example holds.
+pub examples-hold : map (λ (e : Example). e .found) examples ≡ map (λ (e : Example). e .paper) examples
+unfolding reduceAnswer reduceVerdict reducedFile reducedHeader keptOf modeOf isMode falls reduce epochs cut kept keeps phase isFirst isLast pages
+    joinedFile joinedHeader joinedKind
+    replayAnswer replayVerdict summaryOf replayOf cacheAfter eventsAfter badStart twice replay _then_ step hit fetch words word tally tallied isFetch isEviction perMillion
+    has add remove flat over
+    encode encodeHeader encodeItems encodeItem field bytes verdict first verdicts._then_ itemsVerdict isField allowed header items itemsOf item numberAt number
+examples-hold = refl
