@@ -44,7 +44,7 @@ pub record Reducible (f : List ℕ) (mode size room : ℕ) : Type 0 where
   pub whole : header f .kind ≡ 0
   pub fits : length f ≤ room
 
-reduce-then : (f : List ℕ) (mode size room : ℕ) → reduceVerdict f mode size room ≡ (verdict f then first (reduceTests f mode size room))
+pub reduce-then : (f : List ℕ) (mode size room : ℕ) → reduceVerdict f mode size room ≡ (verdict f then first (reduceTests f mode size room))
 unfolding reduceVerdict
 reduce-then f mode size room = elim-then (verdict f) (first (reduceTests f mode size room))
 
