@@ -13,6 +13,10 @@ use Rattle.limits.proofs.Items.new.Kinds as items
 use Rattle.limits.proofs.Items.new.Reads.{Post as items-post}
 use Rattle.limits.proofs.Items.count.Kinds as items-count
 use Rattle.limits.proofs.Items.count.Reads.{Post as items-count-post}
+use Rattle.limits.proofs.Input.new.Kinds as input
+use Rattle.limits.proofs.Input.new.Reads.{Post as input-post}
+use Rattle.limits.proofs.Input.length.Kinds as input-length
+use Rattle.limits.proofs.Input.length.Reads.{Post as input-length-post}
 
 pub filter-once : OneResult filter.ps filter.r filter-post
 filter-once κs args x y s t p q = p ∙ sym q
@@ -31,3 +35,9 @@ items-once κs args x y s t p q = p ∙ sym q
 
 pub items-count-once : OneResult items-count.ps items-count.r items-count-post
 items-count-once κs args x y s t p q = p ∙ sym q
+
+pub input-once : OneResult input.ps input.r input-post
+input-once κs args x y s t p q = p ∙ sym q
+
+pub input-length-once : OneResult input-length.ps input-length.r input-length-post
+input-length-once κs args x y s t p q = p ∙ sym q

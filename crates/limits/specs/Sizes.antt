@@ -11,6 +11,9 @@ use Rattle.limits.specs.declared.CacheMade.the-variants as cache
 use Rattle.limits.specs.declared.Items.{Items}
 use Rattle.limits.specs.declared.ItemsMade.{ItemsMade}
 use Rattle.limits.specs.declared.ItemsMade.the-variants as items
+use Rattle.limits.specs.declared.Input.{Input}
+use Rattle.limits.specs.declared.InputMade.{InputMade}
+use Rattle.limits.specs.declared.InputMade.the-variants as input
 
 -- A number lies from the least to the most.
 abbrev pub between : ℕ → ℕ → ℕ → Bool
@@ -27,3 +30,7 @@ cacheOf least most size = cond (between least most size) (cache.Ready (record { 
 -- A count of items, if it lies within the limits.
 abbrev pub itemsOf : ℕ → ℕ → ℕ → ItemsMade
 itemsOf least most count = cond (between least most count) (items.Ready (record { count = count })) items.Outside
+
+-- An input of so many bytes, if they lie within the limits.
+abbrev pub inputOf : ℕ → ℕ → ℕ → InputMade
+inputOf least most length = cond (between least most length) (input.Ready (record { length = length })) input.Outside

@@ -1,6 +1,6 @@
-// The three limits, each stated once, beside the thing that it limits.
+// The limits, each stated once, beside the thing that it limits.
 ghost use mathlib.Core.Path.{_≡_};
-ghost use Rattle.limits.specs.Sizes.{between, filterOf, cacheOf, itemsOf};
+ghost use Rattle.limits.specs.Sizes.{between, filterOf, cacheOf, itemsOf, inputOf};
 
 // The size of a filter.
 pub struct Filter {
@@ -29,6 +29,16 @@ pub struct Items {
 
 pub enum ItemsMade {
     Ready(Items),
+    Outside,
+}
+
+// How many bytes a program takes, settings included.
+pub struct Input {
+    length: u64,
+}
+
+pub enum InputMade {
+    Ready(Input),
     Outside,
 }
 
@@ -71,6 +81,9 @@ impl Cache {
 
     pub const MOST: u64 = 4096;
 
+    // As many places hold the pages of any cache.
+    pub const PLACES: usize = Cache::MOST as usize;
+
     pub fn new(size: u64) -> CacheMade
         ensures { λ r. do ⌜ r ≡ cacheOf (← ⟦Cache::LEAST⟧ .entry) (← ⟦Cache::MOST⟧ .entry) size ⌝ }
     {
@@ -105,5 +118,29 @@ impl Items {
         ensures { λ r. ⌜ r ≡ self .count ⌝ }
     {
         self.count
+    }
+}
+
+impl Input {
+    pub const LEAST: u64 = 0;
+
+    pub const MOST: u64 = 32_768;
+
+    // As many bytes hold any input.
+    pub const PLACES: usize = Input::MOST as usize;
+
+    pub fn new(length: u64) -> InputMade
+        ensures { λ r. do ⌜ r ≡ inputOf (← ⟦Input::LEAST⟧ .entry) (← ⟦Input::MOST⟧ .entry) length ⌝ }
+    {
+        if lies(Input::LEAST, Input::MOST, length) {
+            return InputMade::Ready(Input { length });
+        }
+        InputMade::Outside
+    }
+
+    pub fn length(self) -> u64
+        ensures { λ r. ⌜ r ≡ self .length ⌝ }
+    {
+        self.length
     }
 }
