@@ -70,15 +70,15 @@ pub passed-joinable : (f g : List ℕ) (room : ℕ) → judged f g room ≡ Pass
 unfolding judged joinedHeader
 passed-joinable f g room e =
     let (a, b, d) = all-sound (verdict f) (verdict g) (first (joinTests f g room)) e in
-    let (m, (l, (r, _))) = first-passed (joinTests f g room) d in
-    let (few, references) = sizes f g l in
+    let passed = first-passed (joinTests f g room) d in
+    let (few, references) = sizes f g (search passed) in
     record {
       first-sound = a;
       second-sound = b;
-      meets = m;
+      meets = search passed;
       few = few;
       references-few = references;
-      fits = ltb-false room (23 + 19 * (header f .items + header g .items)) r;
+      fits = ltb-false room (23 + 19 * (header f .items + header g .items)) (search passed);
     }
 
 -- ---- writing the file

@@ -51,15 +51,15 @@ reduce-then f mode size room = elim-then (verdict f) (first (reduceTests f mode 
 pub sound-reducible : (f : List ℕ) (mode size room : ℕ) → reduceVerdict f mode size room ≡ Sound → Reducible f mode size room
 sound-reducible f mode size room e =
     let (v, w) = then-both (verdict f) (first (reduceTests f mode size room)) (sym (reduce-then f mode size room) ∙ e) in
-    let (m, (s, (k, (r, _)))) = first-passed (reduceTests f mode size room) w in
-    let (a, b) = and-true (leb filterLeast size) (leb size filterMost) (not-false (between filterLeast filterMost size) s) in
+    let passed = first-passed (reduceTests f mode size room) w in
+    let (a, b) = and-true (leb filterLeast size) (leb size filterMost) (not-false (between filterLeast filterMost size) (search passed)) in
     record {
       file-sound = v;
-      mode-is = not-false (isMode mode) m;
+      mode-is = not-false (isMode mode) (search passed);
       least = leb-true filterLeast size a;
       most = leb-true size filterMost b;
-      whole = eqb-true (header f .kind) 0 (not-false (eqb (header f .kind) 0) k);
-      fits = ltb-false room (length f) r;
+      whole = eqb-true (header f .kind) 0 (not-false (eqb (header f .kind) 0) (search passed));
+      fits = ltb-false room (length f) (search passed);
     }
 
 -- ---- writing the file

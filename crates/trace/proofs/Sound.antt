@@ -5,6 +5,7 @@ use mathlib.Core.Bool.{true, false}
 use mathlib.Core.List.{List, [], _∷_}
 use native.Mathlib.Omega.{arith}
 use lib.ListN.{length, drop}
+use lib.Dec.{eqb}
 use borrow.Author.Tests.{eqb-true, eqb-false, ltb-false, not-false, eq-eqb, ne-eqb, le-ltb}
 use Rattle.pages.proofs.Choice.{split}
 use Rattle.trace.specs.Layout.{header, item}
@@ -16,6 +17,7 @@ use Rattle.trace.specs.declared.Reason.{Reason}
 use Rattle.trace.specs.declared.Verdict.{Verdict}
 use Rattle.trace.specs.declared.Verdict.the-variants.{Sound, Faulty}
 use Rattle.trace.specs.declared.Checked.the-variants.{Accepted}
+use Rattle.trace.proofs.Tests.{holds}
 
 -- Every test of a row passes.
 abbrev pub Passed : List Test → Type 0
@@ -69,15 +71,21 @@ module _ (before i n : ℕ) (s : List ℕ) where
   unfolding itemsVerdict
   sound-next e =
       let (p, q) = then-both (first (itemTests before i s)) _ e in
-      let (f, (r, (t, u))) = first-passed (itemTests before i s) p in
-      (record { is-field = not-false (isField 5 16 s 0) f; free = eqb-false (item s .page) reserved r; rises = ltb-false (item s .time) before t }, q)
+      let passed = first-passed (itemTests before i s) p in (
+        record {
+          is-field = not-false (isField 5 16 s 0) (search passed);
+          free = eqb-false (item s .page) reserved (search passed);
+          rises = ltb-false (item s .time) before (search passed);
+        },
+        q,
+      )
 
   -- A sound item and sound items after it are sound.
   pub next-sound : SoundItem before s → itemsVerdict (item s .time) (suc i) n (drop 19 s) ≡ Sound → itemsVerdict before i (suc n) s ≡ Sound
   unfolding itemsVerdict
   next-sound p q =
       both-then (first (itemTests before i s)) _
-      (passed-first (itemTests before i s) (rw (p .is-field), (ne-eqb (item s .page) reserved (p .free), (le-ltb (item s .time) before (p .rises), tt))))
+      (passed-first (itemTests before i s) (search (holds, ne-eqb, le-ltb)))
       q
 
 -- ---- a file
@@ -119,15 +127,15 @@ module _ (f : List ℕ) (h : Header) where
   accepted-sound e =
       let (g, v) = accepts (header f) h (verdict f) e in
       let (p, q) = then-both (first (headerTests f)) _ (rw (verdict-then f) at v) in
-      let (_, (k, (t, (r, (i, (a, (l, _))))))) = first-passed (headerTests f) p in
+      let passed = first-passed (headerTests f) p in
       record {
         header-is = g;
-        kind-field = not-false (isField 1 1 f 0) k;
-        filter-field = not-false (isField 2 2 f 4) t;
-        references-field = not-false (isField 3 4 f 9) r;
-        items-field = not-false (isField 4 4 f 16) i;
-        keeps = not-false (allowed h) (rw g at a);
-        long = eqb-true (length f) (23 + 19 * h .items) (not-false _ (rw g at l));
+        kind-field = not-false (isField 1 1 f 0) (search passed);
+        filter-field = not-false (isField 2 2 f 4) (search passed);
+        references-field = not-false (isField 3 4 f 9) (search passed);
+        items-field = not-false (isField 4 4 f 16) (search passed);
+        keeps = rw (← g) (not-false (allowed (header f)) (search passed));
+        long = rw (← g) (eqb-true (length f) (23 + 19 * header f .items) (not-false (eqb (length f) (23 + 19 * header f .items)) (search passed)));
         items-sound = rw g at q;
       }
 
@@ -137,9 +145,8 @@ module _ (f : List ℕ) (h : Header) where
   sound-accepted s =
       let g = s .header-is in
       let i : itemsVerdict 0 0 (header f .items) (drop 23 f) ≡ Sound = rw g (s .items-sound) in
-      let l = eq-eqb (length f) (23 + 19 * h .items) (s .long) in
-      let p : Passed (headerTests f) = (
-        le-ltb (length f) 23 (omega arith),
-        (rw (s .kind-field), (rw (s .filter-field), (rw (s .references-field), (rw (s .items-field), (rw (g, s .keeps), (rw (g, l), tt)))))),
-      ) in
+      let a : allowed (header f) ≡ true = rw g (s .keeps) in
+      let l : length f ≡ 23 + 19 * header f .items = rw g (s .long) in
+      let b : 23 ≤ length f = omega arith in
+      let p : Passed (headerTests f) = search (holds, le-ltb, eq-eqb) depth 10 in
       rw (verdict-then f, both-then _ _ (passed-first (headerTests f) p) i, g)

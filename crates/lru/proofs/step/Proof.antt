@@ -4,7 +4,7 @@ use Rattle.lru.proofs.Steps.{stepped-hit, stepped-room, stepped-full}
 use Rattle.lru.proofs.step.Statement.{statement}
 use Rattle.lru.proofs.step.Tie as tie
 
-ruleset laws = (stepped-hit, stepped-room, stepped-full, needs)
+ruleset laws = (stepped-hit, needs)
 
 pub step-spec : {M : Type 1} → statement M
 step-spec =
@@ -23,7 +23,7 @@ step-spec =
     (λ c. search needs)
     (λ c. search needs)
     (λ c. search needs)
-    (λ c. search laws)
+    (λ c. (search stepped-room, search needs))
     (λ c. search needs)
     (λ c. search needs)
     (λ c. search needs)
@@ -33,4 +33,4 @@ step-spec =
     (λ c κs. search needs)
     (λ c. search needs)
     (λ c. search needs)
-    (λ c. search laws))
+    (λ c. (search stepped-full, search needs)))
