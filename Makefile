@@ -5,14 +5,10 @@ test:
 	@rt fmt --check
 	@rt ci
 
-# The main job as far as it stands: the paper's trace T, reduced both ways with a filter of 2 pages.
+# The main job: the paper's trace T, whole and reduced both ways, replayed side by side.
 demo:
-	@rt check show reduce >/dev/null
-	@printf 'T:                                  '; target/bin/show <examples/T.trace
-	@printf 'T by FastSlim, B = 2:               '; (printf '\021\003\000\001\002\000'; cat examples/T.trace) | target/bin/reduce | target/bin/show
-	@printf 'T by FastSlim-Demand, B = 2:        '; (printf '\021\003\000\002\002\000'; cat examples/T.trace) | target/bin/reduce | target/bin/show
-	@printf 'T by FastSlim, filter size 0:       '; (printf '\021\003\000\001\000\000'; cat examples/T.trace) | target/bin/reduce
-	@printf 'T cut after 250 bytes:              '; head -c 250 examples/T.trace | target/bin/show
+	@rt check show reduce replay >/dev/null
+	@examples/demo.sh
 
 fmt:
 	@rt fmt
