@@ -1,0 +1,26 @@
+-- `vectors::table::each` meets its contract. Assumes nothing.
+use borrow.Author.Needs.{needs}
+use Prim.Native.Nat.{_-_}
+use lib.ListN.{length}
+use Rattle.vectors.proofs.table.each.Statement.{statement}
+use Rattle.vectors.proofs.table.each.Tie as tie
+
+abbrev Inv-loop : tie.InvT-loop
+Inv-loop form f text told₀ at₀ told at = Unit {0}
+
+abbrev μ-loop : tie.MeasureT-loop
+μ-loop form f text told₀ at₀ told at = length text - at
+
+pub each-spec : {M : Type 1} → statement M
+each-spec =
+    tie.close
+    (tie.spec
+    Inv-loop
+    μ-loop
+    (λ c. search needs)
+    (λ c κs. search needs)
+    (λ c κs. search needs)
+    (λ c κs. search needs)
+    (λ c. search needs)
+    (λ c. search needs)
+    (λ c. search needs))

@@ -1,0 +1,158 @@
+// Each of the four calls, on buffers full of noise, compared with what it should answer and leave.
+use super::answer;
+use super::build;
+use super::build::File;
+use super::noise;
+use super::tell;
+use super::tell::Tally;
+use join::Joined;
+use lru::Replayed;
+use slim::Reduced;
+use trace::Checked;
+ghost use Prim.Native.Nat.{_≤_};
+
+// The settings of a reduction, and how many bytes are lent to it.
+pub struct Reduction {
+    pub mode: u64,
+    pub filter: u64,
+    pub room: usize,
+}
+
+// The cache size of a replay, how many places and pages of a cache it is lent, and how many numbers for its events.
+pub struct Replaying {
+    pub size: u64,
+    pub places: usize,
+    pub resident: usize,
+    pub room: usize,
+}
+
+fn most(n: usize, limit: usize) -> usize
+    ensures { λ r. ⌜ r ≤ limit ⌝ }
+{
+    if n < limit { n } else { limit }
+}
+
+fn holds_file(buf: &[u8], lent: usize, file: &[u8]) -> bool {
+    let n = most(lent, buf.len());
+    noise::holds_file(&buf[0..n], file)
+}
+
+fn holds_numbers(buf: &[u64], lent: usize, over: &[u64], start: &[u64]) -> bool {
+    let n = most(lent, buf.len());
+    noise::holds_numbers(&buf[0..n], over, start)
+}
+
+pub fn check(t: Tally, name: &[u8], f: File, want: [u64; 6]) -> Tally {
+    let bytes = f.bytes;
+    let got = match trace::check(build::shown(&bytes, f.len)) {
+        Checked::Accepted(h) => answer::header(h),
+        Checked::Refused(r) => answer::refusal(r),
+    };
+    tell::line(t, b"check: ", name, got, want, true)
+}
+
+fn reduce_into(file: &[u8], s: Reduction, out: &mut [u8]) -> [u64; 6] {
+    let room = most(s.room, out.len());
+    noise::fill_bytes(&mut out[0..room]);
+    match slim::reduce(file, s.mode, s.filter, &mut out[0..room]) {
+        Reduced::Written(h) => answer::header(h),
+        Reduced::Refused(r) => answer::refusal(r),
+    }
+}
+
+// `after` is what the output should begin with.
+pub fn reduce(
+    t: Tally,
+    call: &[u8],
+    name: &[u8],
+    f: File,
+    s: Reduction,
+    want: [u64; 6],
+    after: File,
+) -> Tally {
+    let bytes = f.bytes;
+    let left = after.bytes;
+    let mut out = [0u8; 512];
+    let got = reduce_into(build::shown(&bytes, f.len), s, &mut out);
+    let kept = holds_file(&out, s.room, build::shown(&left, after.len));
+    tell::line(t, call, name, got, want, kept)
+}
+
+fn join_into(f: &[u8], g: &[u8], room: usize, out: &mut [u8]) -> [u64; 6] {
+    let lent = most(room, out.len());
+    noise::fill_bytes(&mut out[0..lent]);
+    match join::join(f, g, &mut out[0..lent]) {
+        Joined::Written(h) => answer::header(h),
+        Joined::Refused(r) => answer::refusal(r),
+    }
+}
+
+pub fn join(
+    t: Tally,
+    call: &[u8],
+    name: &[u8],
+    f: File,
+    g: File,
+    room: usize,
+    want: [u64; 6],
+    after: File,
+) -> Tally {
+    let one = f.bytes;
+    let two = g.bytes;
+    let left = after.bytes;
+    let mut out = [0u8; 512];
+    let got = join_into(
+        build::shown(&one, f.len),
+        build::shown(&two, g.len),
+        room,
+        &mut out,
+    );
+    let kept = holds_file(&out, room, build::shown(&left, after.len));
+    tell::line(t, call, name, got, want, kept)
+}
+
+fn replay_into(
+    file: &[u8],
+    s: Replaying,
+    start: &[u64],
+    cache: &mut [u64],
+    events: &mut [u64],
+) -> [u64; 6] {
+    let places = most(s.places, cache.len());
+    let room = most(s.room, events.len());
+    noise::fill_numbers(&mut cache[0..places], start);
+    noise::fill_numbers(&mut events[0..room], &start[0..0]);
+    match lru::replay(
+        file,
+        s.size,
+        &mut cache[0..places],
+        s.resident,
+        &mut events[0..room],
+    ) {
+        Replayed::Done(d) => {
+            answer::ran(d.items, d.fetches, d.evictions, d.resident, d.permillion)
+        }
+        Replayed::Refused(r, back) => answer::returned(r.number, r.trace, r.item, back),
+    }
+}
+
+// The cache starts as `start` and noise beyond it; `pages` and `events` are what the two buffers should begin with afterwards.
+pub fn replay(
+    t: Tally,
+    call: &[u8],
+    name: &[u8],
+    f: File,
+    s: Replaying,
+    start: &[u64],
+    want: [u64; 6],
+    pages: &[u64],
+    events: &[u64],
+) -> Tally {
+    let bytes = f.bytes;
+    let mut cache = [0u64; 4097];
+    let mut out = [0u64; 64];
+    let got = replay_into(build::shown(&bytes, f.len), s, start, &mut cache, &mut out);
+    let one = holds_numbers(&cache, s.places, pages, start);
+    let two = holds_numbers(&out, s.room, events, &start[0..0]);
+    tell::line(t, call, name, got, want, one && two)
+}

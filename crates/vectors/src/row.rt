@@ -1,0 +1,145 @@
+// Tables as text: a line has numbers, parted by a space or a slash, then a colon and a name. A dash is the reserved page.
+ghost use Prim.Native.Nat.{_≤_, _<_};
+ghost use lib.ListN.{length};
+
+// The numbers of a line, where its name stands, and where the next line begins.
+pub struct Row {
+    pub numbers: [u64; 48],
+    pub from: usize,
+    pub to: usize,
+    pub next: usize,
+}
+
+pub struct Read {
+    pub numbers: [u64; 48],
+    pub next: usize,
+}
+
+fn line_end(text: &[u8], at: usize) -> usize
+    requires { ⌜ at < length (now text) ⌝ }
+    ensures { λ r. ⌜ at ≤ r ⌝ }
+{
+    let mut p = at;
+    while p < text.len() {
+        if text[p] == b'\n' {
+            return p;
+        }
+        p += 1;
+    }
+    p
+}
+
+fn next_line(text: &[u8], at: usize) -> usize
+    requires { ⌜ at < length (now text) ⌝ }
+    ensures { λ r. ⌜ at < r ⌝ }
+{
+    let end = line_end(text, at);
+    if end < text.len() {
+        return end + 1;
+    }
+    end
+}
+
+fn past_space(text: &[u8], at: usize) -> usize {
+    if at < text.len() { at + 1 } else { at }
+}
+
+// A number with one digit more. No table has a number that does not fit.
+fn with_digit(x: u64, digit: u8) -> u64 {
+    if digit == b'-' {
+        return 0xffff_ffff_ffff_ffff;
+    }
+    if digit < 48 {
+        return x;
+    }
+    if 1844674407370955161 < x {
+        return x;
+    }
+    std::num::wrapping_add_u64(x * 10, (digit - 48) as u64)
+}
+
+fn parts_numbers(b: u8) -> bool {
+    if b == b' ' {
+        return true;
+    }
+    b == b'/'
+}
+
+// The numbers up to the colon, and the place behind it.
+fn read_numbers(text: &[u8], at: usize) -> Read {
+    let mut numbers = [0u64; 48];
+    let mut i = 0usize;
+    let mut p = at;
+    while p < text.len() {
+        let b = text[p];
+        p += 1;
+        if b == b':' {
+            return Read { numbers, next: p };
+        }
+        if parts_numbers(b) {
+            if i < 47 {
+                i += 1;
+            }
+        } else {
+            numbers[i] = with_digit(numbers[i], b);
+        }
+    }
+    Read { numbers, next: p }
+}
+
+pub fn row_at(text: &[u8], at: usize) -> Row
+    requires { ⌜ at < length (now text) ⌝ }
+    ensures { λ r. ⌜ at < r .next ⌝ }
+{
+    let r = read_numbers(text, at);
+    let numbers = r.numbers;
+    Row {
+        numbers,
+        from: past_space(text, r.next),
+        to: line_end(text, at),
+        next: next_line(text, at),
+    }
+}
+
+// The text from a place up to another.
+pub fn between(text: &[u8], from: usize, to: usize) -> &[u8] {
+    if to <= text.len() {
+        if from <= to {
+            return &text[from..to];
+        }
+    }
+    &text[0..0]
+}
+
+// A list in a row: its numbers, the first so many of them, those behind them, and the one at a place.
+pub fn list(numbers: &[u64; 48]) -> &[u64] {
+    numbers
+}
+
+pub fn first(s: &[u64], n: u64) -> &[u64] {
+    let end = n as usize;
+    if end < s.len() {
+        return &s[0..end];
+    }
+    s
+}
+
+// The first so many threes.
+pub fn thrice(s: &[u64], n: u64) -> &[u64] {
+    if n < 20 {
+        return first(s, 3 * n);
+    }
+    s
+}
+
+pub fn behind(s: &[u64], n: u64) -> &[u64] {
+    let start = n as usize;
+    if start < s.len() {
+        return &s[start..];
+    }
+    &s[0..0]
+}
+
+pub fn at(s: &[u64], i: usize) -> u64 {
+    if i < s.len() { s[i] } else { 0 }
+}
