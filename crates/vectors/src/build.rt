@@ -11,7 +11,7 @@ pub fn low(x: u64) -> u8 {
     (x % 256) as u8
 }
 
-fn byte(buf: &mut [u8], at: usize, b: u8) -> usize {
+pub fn byte(buf: &mut [u8], at: usize, b: u8) -> usize {
     if at < buf.len() {
         buf[at] = b;
         return at + 1;

@@ -6,6 +6,7 @@ mod checks;
 mod faults;
 mod joins;
 mod noise;
+mod programs;
 mod reductions;
 mod replays;
 mod row;
@@ -25,6 +26,6 @@ fn main() {
     let t = reductions::all(t);
     let t = joins::all(t);
     let t = replays::all(t);
-    // Vectors of the two programs, from input bytes to output bytes, go here.
+    let t = programs::all(t);
     tell::total(t);
 }
