@@ -76,6 +76,23 @@ impl Tally {
     }
 }
 
+// One item more, in a tally that is lent.
+fn count(t: &mut Tally, fetched: bool, evicted: bool)
+    requires { ⌜ HasRoom (now t) ⌝ }
+    ensures { λ _. ⌜ now (t .exit) ≡ countedOf (now (t .entry)) fetched evicted ⌝ }
+{
+    *t = t.counted(fetched, evicted);
+}
+
+// The same by value: the loop that calls it holds no reference to a struct, which would have to be proved by hand.
+fn count_one(mut t: Tally, fetched: bool, evicted: bool) -> Tally
+    requires { ⌜ HasRoom t ⌝ }
+    ensures { λ r. ⌜ r ≡ countedOf t fetched evicted ⌝ }
+{
+    count(&mut t, fetched, evicted);
+    t
+}
+
 // The page goes to place 0, and those before place j move up by one, the last of them to place j.
 fn push_front(cache: &mut [u64], j: usize, page: u64)
     requires { ⌜ j < length (now cache) ⌝ }
@@ -159,7 +176,7 @@ fn run(
         let x = trace::read::item_at(file, i);
         let f = t.fetches as usize;
         let s = step(x, k, cache, m, events, f);
-        t = t.counted(s.fetched, s.evicted);
+        t = count_one(t, s.fetched, s.evicted);
         m = s.resident;
         i += 1;
     }
