@@ -20,7 +20,7 @@ one-more c =
     let item = done .before .before .before in
     let turn = item .before in
     running-more (turn .before .loop .inv) (search) (turn .loop-test .taken) (item .item-at .ensures) (done .step .ensures .0) (done .step .ensures .1)
-    (c .counted .ensures) (search) (search)
+    (c .count-one .ensures) (search) (search)
 
 pub run-spec : {M : Type 1} → statement M
 run-spec =
