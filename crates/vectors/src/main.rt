@@ -11,7 +11,6 @@ mod replays;
 mod row;
 mod table;
 mod tell;
-mod traces;
 
 use tell::Tally;
 
@@ -21,10 +20,16 @@ fn main() {
         failed: 0,
     };
     let t = checks::all(t);
-    let t = faults::all(t);
-    let t = reductions::all(t);
-    let t = joins::all(t);
-    let t = replays::all(t);
+    let t = faults::fields(t);
+    let t = faults::values(t);
+    let t = faults::orders(t);
+    let t = reductions::taken(t);
+    let t = reductions::refusals(t);
+    let t = joins::files(t);
+    let t = joins::edges(t);
+    let t = replays::of_t(t);
+    let t = replays::trap(t);
+    let t = replays::refusals(t);
     // Vectors of the two programs, from input bytes to output bytes, go here.
     tell::total(t);
 }
