@@ -1,4 +1,5 @@
-// The examples of the paper that are not proved as theorems, run and compared. A line for each, and at last how many passed and failed.
+// Runs the table of vectors that the crate's file `stdin` has, the paper's examples that are not proved as theorems, and compares. A line for
+// each, and at last how many passed and failed.
 mod answer;
 mod ask;
 mod build;
@@ -15,21 +16,12 @@ mod tell;
 use tell::Tally;
 
 fn main() {
+    let mut buffer = io::large_buffer();
+    let n = io::read_full(0, &mut buffer);
     let t = Tally {
         passed: 0,
         failed: 0,
     };
-    let t = checks::all(t);
-    let t = faults::fields(t);
-    let t = faults::values(t);
-    let t = faults::orders(t);
-    let t = reductions::taken(t);
-    let t = reductions::refusals(t);
-    let t = joins::files(t);
-    let t = joins::edges(t);
-    let t = replays::of_t(t);
-    let t = replays::trap(t);
-    let t = replays::refusals(t);
-    // Vectors of the two programs, from input bytes to output bytes, go here.
+    let t = table::each(t, &buffer[..n]);
     tell::total(t);
 }

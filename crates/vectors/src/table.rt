@@ -1,4 +1,4 @@
-// A table, line by line. A line `f` is the file that those below it are on; of the other forms each is said where it is tried.
+// A table, line by line. A line `f` is the file that those below it are on; each other form is told where it is tried.
 use super::build;
 use super::build::File;
 use super::checks;
@@ -7,6 +7,7 @@ use super::joins;
 use super::reductions;
 use super::replays;
 use super::row;
+use super::tell;
 use super::tell::Tally;
 
 fn tried(t: Tally, form: u8, name: &[u8], f: File, n: [u64; 48]) -> Tally {
@@ -17,7 +18,8 @@ fn tried(t: Tally, form: u8, name: &[u8], f: File, n: [u64; 48]) -> Tally {
         b'r' => reductions::tried(t, name, f, n),
         b'j' => joins::tried(t, name, n),
         b'p' => replays::tried(t, name, f, n),
-        _ => t,
+        b'f' | b'#' | b'\n' => t,
+        _ => tell::unread(t, name),
     }
 }
 

@@ -52,6 +52,11 @@ pub fn line(
     }
 }
 
+// A line of no known form is no vector that passed.
+pub fn unread(t: Tally, name: &[u8]) -> Tally {
+    line(t, b"unknown form: ", name, [0; 6], [1; 6], true)
+}
+
 pub fn total(t: Tally) {
     io::print_decimal(1, t.passed);
     io::write_all(1, b" passed, ");
