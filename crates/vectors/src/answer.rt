@@ -1,4 +1,4 @@
-// What a call answers, as six numbers: 0 and the values, or the refusal's number, trace and item.
+// What a call answers, as six numbers: 0 and the values, or the refusal's number, trace, item and, of a replay, the resident count given back.
 use trace::Header;
 use trace::Refusal;
 
@@ -6,19 +6,6 @@ pub fn header(h: Header) -> [u64; 6] {
     [0, h.kind, h.filter, h.references, h.items, 0]
 }
 
-pub fn refused(number: u64, trace: u64, item: u64) -> [u64; 6] {
-    [number, trace, item, 0, 0, 0]
-}
-
-// A replay's refusal gives back the resident count too.
-pub fn returned(number: u64, trace: u64, item: u64, resident: u64) -> [u64; 6] {
-    [number, trace, item, resident, 0, 0]
-}
-
-pub fn ran(items: u64, fetches: u64, evictions: u64, resident: u64, permillion: u64) -> [u64; 6] {
-    [0, items, fetches, evictions, resident, permillion]
-}
-
-pub fn refusal(r: Refusal) -> [u64; 6] {
-    refused(r.number, r.trace, r.item)
+pub fn refusal(r: Refusal, resident: u64) -> [u64; 6] {
+    [r.number, r.trace, r.item, resident, 0, 0]
 }

@@ -32,21 +32,11 @@ fn most(n: usize, limit: usize) -> usize
     if n < limit { n } else { limit }
 }
 
-fn holds_file(buf: &[u8], lent: usize, file: &[u8]) -> bool {
-    let n = most(lent, buf.len());
-    noise::holds_file(&buf[0..n], file)
-}
-
-fn holds_numbers(buf: &[u64], lent: usize, over: &[u64], start: &[u64]) -> bool {
-    let n = most(lent, buf.len());
-    noise::holds_numbers(&buf[0..n], over, start)
-}
-
 pub fn check(t: Tally, name: &[u8], f: File, want: [u64; 6]) -> Tally {
     let bytes = f.bytes;
     let got = match trace::check(build::shown(&bytes, f.len)) {
         Checked::Accepted(h) => answer::header(h),
-        Checked::Refused(r) => answer::refusal(r),
+        Checked::Refused(r) => answer::refusal(r, 0),
     };
     tell::line(t, b"check: ", name, got, want, true)
 }
@@ -56,7 +46,7 @@ fn reduce_into(file: &[u8], s: Reduction, out: &mut [u8]) -> [u64; 6] {
     noise::fill_bytes(&mut out[0..room]);
     match slim::reduce(file, s.mode, s.filter, &mut out[0..room]) {
         Reduced::Written(h) => answer::header(h),
-        Reduced::Refused(r) => answer::refusal(r),
+        Reduced::Refused(r) => answer::refusal(r, 0),
     }
 }
 
@@ -74,7 +64,7 @@ pub fn reduce(
     let left = after.bytes;
     let mut out = [0u8; 512];
     let got = reduce_into(build::shown(&bytes, f.len), s, &mut out);
-    let kept = holds_file(&out, s.room, build::shown(&left, after.len));
+    let kept = noise::holds_file(&out, s.room, build::shown(&left, after.len));
     tell::line(t, call, name, got, want, kept)
 }
 
@@ -83,7 +73,7 @@ fn join_into(f: &[u8], g: &[u8], room: usize, out: &mut [u8]) -> [u64; 6] {
     noise::fill_bytes(&mut out[0..lent]);
     match join::join(f, g, &mut out[0..lent]) {
         Joined::Written(h) => answer::header(h),
-        Joined::Refused(r) => answer::refusal(r),
+        Joined::Refused(r) => answer::refusal(r, 0),
     }
 }
 
@@ -107,7 +97,7 @@ pub fn join(
         room,
         &mut out,
     );
-    let kept = holds_file(&out, room, build::shown(&left, after.len));
+    let kept = noise::holds_file(&out, room, build::shown(&left, after.len));
     tell::line(t, call, name, got, want, kept)
 }
 
@@ -129,10 +119,8 @@ fn replay_into(
         s.resident,
         &mut events[0..room],
     ) {
-        Replayed::Done(d) => {
-            answer::ran(d.items, d.fetches, d.evictions, d.resident, d.permillion)
-        }
-        Replayed::Refused(r, back) => answer::returned(r.number, r.trace, r.item, back),
+        Replayed::Done(d) => [0, d.items, d.fetches, d.evictions, d.resident, d.permillion],
+        Replayed::Refused(r, back) => answer::refusal(r, back),
     }
 }
 
@@ -152,7 +140,7 @@ pub fn replay(
     let mut cache = [0u64; 4097];
     let mut out = [0u64; 64];
     let got = replay_into(build::shown(&bytes, f.len), s, start, &mut cache, &mut out);
-    let one = holds_numbers(&cache, s.places, pages, start);
-    let two = holds_numbers(&out, s.room, events, &start[0..0]);
+    let one = noise::holds_numbers(&cache, s.places, pages, start);
+    let two = noise::holds_numbers(&out, s.room, events, &start[0..0]);
     tell::line(t, call, name, got, want, one && two)
 }

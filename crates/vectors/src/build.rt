@@ -45,13 +45,6 @@ fn item(buf: &mut [u8], at: usize, page: u64, time: u64) -> usize {
     number(buf, next, 8, time)
 }
 
-fn header(buf: &mut [u8], h: Header) -> usize {
-    let filter = field(buf, 0, 1, 1, h.kind);
-    let references = field(buf, filter, 2, 2, h.filter);
-    let items = field(buf, references, 3, 4, h.references);
-    field(buf, items, 4, 4, h.items)
-}
-
 // Pages and times in turn.
 fn rows(buf: &mut [u8], at: usize, items: &[u64]) -> usize {
     let mut next = at;
@@ -66,7 +59,10 @@ fn rows(buf: &mut [u8], at: usize, items: &[u64]) -> usize {
 // The header need not fit the items: a file may be wrong.
 pub fn file_of(h: Header, items: &[u64]) -> File {
     let mut bytes = [0u8; 512];
-    let at = header(&mut bytes, h);
+    let filter = field(&mut bytes, 0, 1, 1, h.kind);
+    let references = field(&mut bytes, filter, 2, 2, h.filter);
+    let count = field(&mut bytes, references, 3, 4, h.references);
+    let at = field(&mut bytes, count, 4, 4, h.items);
     let len = rows(&mut bytes, at, items);
     File { bytes, len }
 }
@@ -80,11 +76,6 @@ pub fn head(kind: u64, filter: u64, references: u64, items: u64) -> Header {
     }
 }
 
-// The header of a whole trace.
-pub fn whole(items: u64) -> Header {
-    head(0, 0, items, items)
-}
-
 // No bytes at all.
 pub fn nothing() -> File {
     let bytes = [0u8; 512];
@@ -96,14 +87,6 @@ impl File {
     pub fn cut(self, len: usize) -> File {
         let bytes = self.bytes;
         File { bytes, len }
-    }
-
-    // As many items there, whatever the header says.
-    pub fn with_items(self, items: u64) -> File {
-        if items < 20 {
-            return self.cut(23 + 19 * items as usize);
-        }
-        self
     }
 
     // Another byte at a place.

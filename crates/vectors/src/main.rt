@@ -1,4 +1,5 @@
-// The examples of the paper that are not proved as theorems, run and compared. A line for each, and at last how many passed and failed.
+// Runs the table of vectors that the crate's file `stdin` has, the paper's examples that are not proved as theorems, and compares. A line for
+// each, and at last how many passed and failed.
 mod answer;
 mod ask;
 mod build;
@@ -12,20 +13,16 @@ mod replays;
 mod row;
 mod table;
 mod tell;
-mod traces;
 
 use tell::Tally;
 
 fn main() {
+    let mut buffer = io::large_buffer();
+    let n = io::read_full(0, &mut buffer);
     let t = Tally {
         passed: 0,
         failed: 0,
     };
-    let t = checks::all(t);
-    let t = faults::all(t);
-    let t = reductions::all(t);
-    let t = joins::all(t);
-    let t = replays::all(t);
-    let t = programs::all(t);
+    let t = table::each(t, &buffer[..n]);
     tell::total(t);
 }

@@ -1,19 +1,12 @@
 // What a lent buffer holds before a call, and whether it holds what it should afterwards. The noise differs from place to place,
 // so that a byte moved, and not only a byte written, is seen.
 
-fn noise_byte(i: usize) -> u8 {
-    (i % 251) as u8
-}
-
-fn noise_number(i: usize) -> u64 {
-    std::num::wrapping_add_u64(i as u64, 7000000)
-}
-
+// A byte of the file, or noise beyond it.
 fn due_byte(file: &[u8], i: usize) -> u8 {
     if i < file.len() {
         return file[i];
     }
-    noise_byte(i)
+    (i % 251) as u8
 }
 
 fn due_number(over: &[u64], start: &[u64], i: usize) -> u64 {
@@ -23,13 +16,13 @@ fn due_number(over: &[u64], start: &[u64], i: usize) -> u64 {
     if i < start.len() {
         return start[i];
     }
-    noise_number(i)
+    std::num::wrapping_add_u64(i as u64, 7000000)
 }
 
 pub fn fill_bytes(buf: &mut [u8]) {
     let mut i = 0;
     while i < buf.len() {
-        buf[i] = noise_byte(i);
+        buf[i] = due_byte(&[], i);
         i += 1;
     }
 }
@@ -43,10 +36,13 @@ pub fn fill_numbers(buf: &mut [u64], start: &[u64]) {
     }
 }
 
-// Whether a buffer holds the file, and beyond it what it had.
-pub fn holds_file(buf: &[u8], file: &[u8]) -> bool {
+// Whether the lent part of a buffer holds the file, and beyond it what it had.
+pub fn holds_file(buf: &[u8], lent: usize, file: &[u8]) -> bool {
     let mut i = 0;
     while i < buf.len() {
+        if lent <= i {
+            return true;
+        }
         if buf[i] != due_byte(file, i) {
             return false;
         }
@@ -55,10 +51,13 @@ pub fn holds_file(buf: &[u8], file: &[u8]) -> bool {
     true
 }
 
-// Whether a buffer holds the numbers of `over`, and beyond them what it had: `start`, and noise.
-pub fn holds_numbers(buf: &[u64], over: &[u64], start: &[u64]) -> bool {
+// Whether the lent part of a buffer holds the numbers of `over`, and beyond them what it had: `start`, and noise.
+pub fn holds_numbers(buf: &[u64], lent: usize, over: &[u64], start: &[u64]) -> bool {
     let mut i = 0;
     while i < buf.len() {
+        if lent <= i {
+            return true;
+        }
         if buf[i] != due_number(over, start, i) {
             return false;
         }

@@ -1,33 +1,29 @@
-// Replays that are taken, with every event and the cache compared, and the refusals 7, 9, 10 and 11.
-use super::answer;
+// A replay: its answer, the cache and every event.
 use super::ask;
 use super::ask::Replaying;
-use super::build;
 use super::build::File;
 use super::row;
-use super::table;
-use super::table::Form;
 use super::tell::Tally;
-use super::traces;
 
-// What follows the start in a row: items, fetches, evictions, resident pages and the rate; these pages; and the events.
+// What follows the start in the line: items, fetches, evictions, resident pages and the rate; these pages; and the events.
 fn ran(t: Tally, name: &[u8], f: File, s: Replaying, start: &[u64], rest: &[u64]) -> Tally {
     let fetches = row::at(rest, 1);
     let resident = row::at(rest, 3);
-    let want = answer::ran(
+    let want = [
+        0,
         row::at(rest, 0),
         fetches,
         row::at(rest, 2),
         resident,
         row::at(rest, 4),
-    );
+    ];
     let lists = row::behind(rest, 5);
     let pages = row::first(lists, resident);
-    let events = row::thrice(row::behind(lists, resident), fetches);
+    let events = row::threes(row::behind(lists, resident), fetches);
     ask::replay(t, b"replay: ", name, f, s, start, want, pages, events)
 }
 
-// A row: cache size, places, resident count, room and the refusal, or 0 for it; how many numbers the cache starts with, and these.
+// A line `p`: cache size, places, resident count, room and the refusal, or 0 for it; how many numbers the cache starts with, and these.
 pub fn tried(t: Tally, name: &[u8], f: File, n: [u64; 48]) -> Tally {
     let s = Replaying {
         size: n[0],
@@ -42,139 +38,6 @@ pub fn tried(t: Tally, name: &[u8], f: File, n: [u64; 48]) -> Tally {
     if n[4] == 0 {
         return ran(t, name, f, s, start, row::behind(lists, n[5]));
     }
-    let want = answer::returned(n[4], 1, 0, n[2]);
+    let want = [n[4], 1, 0, n[2], 0, 0];
     ask::replay(t, b"replay: ", name, f, s, start, want, &[], &[])
-}
-
-// The least and the largest cache, and those between on T.
-fn of_t(t: Tally) -> Tally {
-    table::each(
-        t,
-        Form::Replay,
-        traces::t(),
-        b"1 3 0 40 0 0/12 7 6 1 583333/1/10 1 -/40 2 1/50 1 2/60 3 1/80 4 3/90 3 4/110 1 3: T, cache size 1\n\
-        2 4 0 40 0 0/12 5 3 2 416666/1 3/10 1 -/40 2 -/60 3 2/80 4 1/110 1 4: T, cache size 2\n\
-        3 5 0 40 0 0/12 4 1 3 333333/1 3 4/10 1 -/40 2 -/60 3 -/80 4 2: T, cache size 3\n\
-        4 6 0 40 0 0/12 4 0 4 333333/1 3 4 2/10 1 -/40 2 -/60 3 -/80 4 -: T, cache size 4\n\
-        4096 4096 0 40 0 0/12 4 0 4 333333/1 3 4 2/10 1 -/40 2 -/60 3 -/80 4 -: T, cache size 4,096\n",
-    )
-}
-
-// Just enough places and room, and a full cache: every fetch evicts. Then what stands beyond the resident pages is none of the cache's.
-fn started(t: Tally) -> Tally {
-    table::each(
-        t,
-        Form::Replay,
-        traces::t(),
-        b"2 2 2 36 0 2/7 8/12 5 5 2 416666/1 3/10 1 8/40 2 7/60 3 2/80 4 1/110 1 4: T from 7 8, just enough room\n\
-        2 4 2 40 0 2/3 1/12 4 4 2 333333/1 3/40 2 3/60 3 2/80 4 1/110 1 4: T from 3 1\n\
-        3 5 1 40 0 4/7 7 - -/12 4 2 3 333333/1 3 4/10 1 -/40 2 -/60 3 7/80 4 2: T from 7, a page twice beyond\n",
-    )
-}
-
-// The same fetches as T's, from what the reductions and the join leave of it.
-fn short_traces(t: Tally) -> Tally {
-    let t = table::each(
-        t,
-        Form::Replay,
-        traces::demand(),
-        b"2 4 0 40 0 0/8 5 3 2 625000/1 3/10 1 -/40 2 -/60 3 2/80 4 1/110 1 4: T by Demand\n",
-    );
-    let t = table::each(
-        t,
-        Form::Replay,
-        traces::fastslim(),
-        b"2 4 0 40 0 0/10 5 3 2 500000/1 3/10 1 -/40 2 -/60 3 2/80 4 1/110 1 4: T by FastSlim\n",
-    );
-    table::each(
-        t,
-        Form::Replay,
-        traces::joined(),
-        b"2 4 0 40 0 0/10 5 3 2 500000/1 3/10 1 -/40 2 -/60 3 2/80 4 1/110 1 4: T's two parts, reduced and joined\n",
-    )
-}
-
-// p u p v p u and its Demand reduction p u v p u, where a second-chance queue would end otherwise: from nothing, from p a u and from p a u v.
-fn trap(t: Tally) -> Tally {
-    let t = table::each(
-        t,
-        Form::Replay,
-        traces::trap(),
-        b"3 5 0 40 0 0/6 3 0 3 500000/2 1 3/1 1 -/2 2 -/4 3 -: p u p v p u, cache size 3\n\
-        4 6 0 40 0 0/6 3 0 3 500000/2 1 3/1 1 -/2 2 -/4 3 -: p u p v p u, cache size 4\n\
-        3 5 3 40 0 3/1 4 2/6 1 1 3 166666/2 1 3/4 3 4: p u p v p u from p a u\n\
-        4 6 4 40 0 4/1 4 2 3/6 0 0 4 0/2 1 3 4: p u p v p u from p a u v\n",
-    );
-    table::each(
-        t,
-        Form::Replay,
-        traces::trapped(),
-        b"3 5 0 40 0 0/5 3 0 3 600000/2 1 3/1 1 -/2 2 -/4 3 -: p u v p u, cache size 3\n\
-        4 6 0 40 0 0/5 3 0 3 600000/2 1 3/1 1 -/2 2 -/4 3 -: p u v p u, cache size 4\n\
-        3 5 3 40 0 3/1 4 2/5 1 1 3 200000/2 1 3/4 3 4: p u v p u from p a u\n\
-        4 6 4 40 0 4/1 4 2 3/5 0 0 4 0/2 1 3 4: p u v p u from p a u v\n",
-    )
-}
-
-fn empty(t: Tally) -> Tally {
-    table::each(
-        t,
-        Form::Replay,
-        traces::empty(),
-        b"2 4 0 0 0 0/0 0 0 0 0: no items\n\
-        2 4 2 0 0 2/7 8/0 0 0 2 0/7 8: no items from 7 8\n",
-    )
-}
-
-fn refusals(t: Tally) -> Tally {
-    table::each(
-        t,
-        Form::Replay,
-        traces::t(),
-        b"0 4 2 36 7 2/7 8: cache size 0\n\
-        4097 4097 2 36 7 2/7 8: cache size 4,097\n\
-        2 4 3 36 10 3/7 8 9: more pages than the cache has room for\n\
-        2 4 1000000 36 10 3/7 8 9: far more pages than that\n\
-        3 2 1 36 10 1/7: a buffer of fewer places than the cache\n\
-        3 4 3 36 10 3/7 8 7: a page twice\n\
-        2 4 2 36 10 2/7 -: the reserved page in the start\n\
-        2 4 2 35 11 2/7 8: a number short\n\
-        2 4 2 0 11 2/7 8: no room for events\n\
-        0 0 9 0 7 0: cache size 0 before the start and the room\n\
-        4097 2 3 0 7 2/7 7: cache size 4,097 before the start and the room\n\
-        2 4 3 0 10 3/7 8 9: more pages before the room\n\
-        3 2 1 0 10 1/7: fewer places before the room\n\
-        3 4 3 0 10 3/7 8 7: a page twice before the room\n\
-        2 4 2 0 10 2/7 -: the reserved page before the room\n",
-    )
-}
-
-// A cache below the filter size of the file, and one just as large.
-fn filters(t: Tally) -> Tally {
-    let t = table::each(
-        t,
-        Form::Replay,
-        traces::demand(),
-        b"1 4 1 40 9 1/7: cache size 1, filter size 2\n\
-        0 4 1 40 7 1/7: cache size 0 before filter size 2\n\
-        1 4 2 40 9 2/7 7: filter size 2 before the start\n\
-        1 4 1 0 9 1/7: filter size 2 before the room\n",
-    );
-    table::each(
-        t,
-        Form::Replay,
-        build::file_of(build::head(2, 1024, 1, 1), &[7, 5]),
-        b"1023 1030 0 40 9 0: cache size 1,023, filter size 1,024\n\
-        1024 1024 0 40 0 0/1 1 0 1 1000000/7/5 7 -: cache and filter size 1,024\n",
-    )
-}
-
-pub fn all(t: Tally) -> Tally {
-    let t = of_t(t);
-    let t = started(t);
-    let t = short_traces(t);
-    let t = trap(t);
-    let t = empty(t);
-    let t = refusals(t);
-    filters(t)
 }

@@ -1,9 +1,10 @@
-// Tables as text: a line has numbers, parted by a space or a slash, then a colon and a name. A dash is the reserved page.
+// Tables as text: a line has the letter of its form, numbers, parted by a space or a slash, then a colon and a name. A dash is the reserved page.
 ghost use Prim.Native.Nat.{_≤_, _<_};
 ghost use lib.ListN.{length};
 
-// The numbers of a line, where its name stands, and where the next line begins.
+// The form and the numbers of a line, where its name stands, and where the next line begins.
 pub struct Row {
+    pub form: u8,
     pub numbers: [u64; 48],
     pub from: usize,
     pub to: usize,
@@ -40,7 +41,7 @@ fn next_line(text: &[u8], at: usize) -> usize
     end
 }
 
-fn past_space(text: &[u8], at: usize) -> usize {
+fn past(text: &[u8], at: usize) -> usize {
     if at < text.len() { at + 1 } else { at }
 }
 
@@ -58,13 +59,6 @@ fn with_digit(x: u64, digit: u8) -> u64 {
     std::num::wrapping_add_u64(x * 10, (digit - 48) as u64)
 }
 
-fn parts_numbers(b: u8) -> bool {
-    if b == b' ' {
-        return true;
-    }
-    b == b'/'
-}
-
 // The numbers up to the colon, and the place behind it.
 fn read_numbers(text: &[u8], at: usize) -> Read {
     let mut numbers = [0u64; 48];
@@ -76,7 +70,7 @@ fn read_numbers(text: &[u8], at: usize) -> Read {
         if b == b':' {
             return Read { numbers, next: p };
         }
-        if parts_numbers(b) {
+        if b == b' ' || b == b'/' {
             if i < 47 {
                 i += 1;
             }
@@ -91,11 +85,12 @@ pub fn row_at(text: &[u8], at: usize) -> Row
     requires { ⌜ at < length (now text) ⌝ }
     ensures { λ r. ⌜ at < r .next ⌝ }
 {
-    let r = read_numbers(text, at);
+    let r = read_numbers(text, past(text, past(text, at)));
     let numbers = r.numbers;
     Row {
+        form: text[at],
         numbers,
-        from: past_space(text, r.next),
+        from: past(text, r.next),
         to: line_end(text, at),
         next: next_line(text, at),
     }
@@ -111,6 +106,26 @@ pub fn between(text: &[u8], from: usize, to: usize) -> &[u8] {
     &text[0..0]
 }
 
+fn bar(text: &[u8]) -> usize {
+    let mut p = 0;
+    while p < text.len() {
+        if text[p] == b'|' {
+            return p;
+        }
+        p += 1;
+    }
+    p
+}
+
+// A name, and what stands behind a bar after it.
+pub fn before_bar(text: &[u8]) -> &[u8] {
+    between(text, 0, bar(text))
+}
+
+pub fn behind_bar(text: &[u8]) -> &[u8] {
+    between(text, past(text, bar(text)), text.len())
+}
+
 // A list in a row: its numbers, the first so many of them, those behind them, and the one at a place.
 pub fn list(numbers: &[u64; 48]) -> &[u64] {
     numbers
@@ -124,8 +139,15 @@ pub fn first(s: &[u64], n: u64) -> &[u64] {
     s
 }
 
-// The first so many threes.
-pub fn thrice(s: &[u64], n: u64) -> &[u64] {
+// The first so many pairs, and threes. No row has as many as twenty.
+pub fn pairs(s: &[u64], n: u64) -> &[u64] {
+    if n < 20 {
+        return first(s, 2 * n);
+    }
+    s
+}
+
+pub fn threes(s: &[u64], n: u64) -> &[u64] {
     if n < 20 {
         return first(s, 3 * n);
     }

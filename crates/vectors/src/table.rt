@@ -1,47 +1,56 @@
-// A table, row by row: what the numbers of a row are is said where its form is tried.
+// A table, line by line. A line `f` is the file that those below it are on; each other form is told where it is tried.
+use super::build;
 use super::build::File;
 use super::checks;
 use super::faults;
 use super::joins;
+use super::programs;
 use super::reductions;
 use super::replays;
 use super::row;
+use super::tell;
 use super::tell::Tally;
-ghost use Prim.Native.Nat.{_<_};
 
-pub enum Form {
-    Header,
-    Items,
-    BadByte,
-    BadHeader,
-    BadItems,
-    Reduction,
-    Join,
-    Replay,
-}
-
-fn tried(t: Tally, form: Form, name: &[u8], f: File, n: [u64; 48]) -> Tally {
+fn tried(t: Tally, form: u8, name: &[u8], f: File, n: [u64; 48]) -> Tally {
     match form {
-        Form::Header => checks::header(t, name, n),
-        Form::Items => checks::items(t, name, n),
-        Form::BadByte => faults::byte(t, name, f, n),
-        Form::BadHeader => faults::header(t, name, n),
-        Form::BadItems => faults::items(t, name, n),
-        Form::Reduction => reductions::tried(t, name, f, n),
-        Form::Join => joins::tried(t, name, n),
-        Form::Replay => replays::tried(t, name, f, n),
+        b'c' => checks::tried(t, name, n),
+        b'b' => faults::with_byte(t, name, f, n),
+        b'x' => faults::tried(t, name, n),
+        b'r' => reductions::tried(t, name, f, n),
+        b'j' => joins::tried(t, name, n),
+        b'p' => replays::tried(t, name, f, n),
+        b'l' => programs::replayed(t, name, f, n),
+        b'd' => programs::refused(t, name, f, n),
+        b'w' => programs::written(t, name, f, n),
+        b'f' | b'#' | b'\n' => t,
+        _ => tell::unread(t, name),
     }
 }
 
-// The rows of a table of one form, all on the same file where the form has one.
-pub fn each(t: Tally, form: Form, f: File, text: &[u8]) -> Tally {
+// The four header values, and the items.
+pub fn file_in(n: [u64; 48]) -> File {
+    let h = build::head(n[0], n[1], n[2], n[3]);
+    let count = n[3];
+    build::file_of(h, row::pairs(row::behind(row::list(&n), 4), count))
+}
+
+fn file_of_line(form: u8, f: File, n: [u64; 48]) -> File {
+    if form == b'f' {
+        return file_in(n);
+    }
+    f
+}
+
+pub fn each(t: Tally, text: &[u8]) -> Tally {
     let mut told = t;
+    let mut f = build::nothing();
     let mut at = 0;
     while at < text.len() {
         let r = row::row_at(text, at);
         let n = r.numbers;
         let name = row::between(text, r.from, r.to);
-        told = tried(told, form, name, f, n);
+        f = file_of_line(r.form, f, n);
+        told = tried(told, r.form, name, f, n);
         at = r.next;
     }
     told

@@ -7,10 +7,10 @@ use Rattle.vectors.proofs.noise.fill_bytes.Statement.{statement}
 use Rattle.vectors.proofs.noise.fill_bytes.Tie as tie
 
 abbrev Inv-loop : tie.InvT-loop
-Inv-loop buf₀ i₀ buf i = length buf ≡ length buf₀
+Inv-loop buf₀ i₀ t3 buf i = length buf ≡ length buf₀
 
 abbrev μ-loop : tie.MeasureT-loop
-μ-loop buf₀ i₀ buf i = length buf₀ - i
+μ-loop buf₀ i₀ t3 buf i = length buf₀ - i
 
 pub fill-bytes-spec : {M : Type 1} → statement M
 fill-bytes-spec =
@@ -18,6 +18,7 @@ fill-bytes-spec =
     (tie.spec
     Inv-loop
     μ-loop
+    (λ c. search needs)
     (λ c. search needs)
     (λ c κs. search needs)
     (λ c. search needs)

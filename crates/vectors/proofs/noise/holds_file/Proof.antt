@@ -6,10 +6,10 @@ use Rattle.vectors.proofs.noise.holds_file.Statement.{statement}
 use Rattle.vectors.proofs.noise.holds_file.Tie as tie
 
 abbrev Inv-loop : tie.InvT-loop
-Inv-loop buf file i₀ i = i ≤ length buf
+Inv-loop buf lent file i₀ i = i ≤ length buf
 
 abbrev μ-loop : tie.MeasureT-loop
-μ-loop buf file i₀ i = length buf - i
+μ-loop buf lent file i₀ i = length buf - i
 
 pub holds-file-spec : {M : Type 1} → statement M
 holds-file-spec =
@@ -17,6 +17,7 @@ holds-file-spec =
     (tie.spec
     Inv-loop
     μ-loop
+    (λ c. search needs)
     (λ c. search needs)
     (λ c. search needs)
     (λ c κs. search needs)

@@ -6,10 +6,10 @@ use Rattle.vectors.proofs.noise.holds_numbers.Statement.{statement}
 use Rattle.vectors.proofs.noise.holds_numbers.Tie as tie
 
 abbrev Inv-loop : tie.InvT-loop
-Inv-loop buf over start i₀ i = i ≤ length buf
+Inv-loop buf lent over start i₀ i = i ≤ length buf
 
 abbrev μ-loop : tie.MeasureT-loop
-μ-loop buf over start i₀ i = length buf - i
+μ-loop buf lent over start i₀ i = length buf - i
 
 pub holds-numbers-spec : {M : Type 1} → statement M
 holds-numbers-spec =
@@ -17,6 +17,7 @@ holds-numbers-spec =
     (tie.spec
     Inv-loop
     μ-loop
+    (λ c. search needs)
     (λ c. search needs)
     (λ c. search needs)
     (λ c. search needs)

@@ -6,10 +6,10 @@ use Rattle.vectors.proofs.programs.copied.Statement.{statement}
 use Rattle.vectors.proofs.programs.copied.Tie as tie
 
 abbrev Inv-loop : tie.InvT-loop
-Inv-loop to₀ at from next₀ rest₀ to next rest = length to ≡ length to₀
+Inv-loop to₀ at from text next₀ rest₀ to next rest = length to ≡ length to₀
 
 abbrev μ-loop : tie.MeasureT-loop
-μ-loop to₀ at from next₀ rest₀ to next rest = length rest
+μ-loop to₀ at from text next₀ rest₀ to next rest = length rest
 
 pub copied-spec : {M : Type 1} → statement M
 copied-spec =
@@ -19,6 +19,7 @@ copied-spec =
     μ-loop
     (λ c. search needs)
     (λ c. search needs)
+    (λ c κs. search needs)
     (λ c κs. search needs)
     (λ c. search needs)
     (λ c. search needs)

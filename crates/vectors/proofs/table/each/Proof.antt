@@ -6,10 +6,10 @@ use Rattle.vectors.proofs.table.each.Statement.{statement}
 use Rattle.vectors.proofs.table.each.Tie as tie
 
 abbrev Inv-loop : tie.InvT-loop
-Inv-loop form f text told₀ at₀ told at = Unit {0}
+Inv-loop text told₀ f₀ at₀ told f at = Unit {0}
 
 abbrev μ-loop : tie.MeasureT-loop
-μ-loop form f text told₀ at₀ told at = length text - at
+μ-loop text told₀ f₀ at₀ told f at = length text - at
 
 pub each-spec : {M : Type 1} → statement M
 each-spec =
@@ -17,7 +17,9 @@ each-spec =
     (tie.spec
     Inv-loop
     μ-loop
+    (λ c κs. search needs)
     (λ c. search needs)
+    (λ c κs. search needs)
     (λ c κs. search needs)
     (λ c κs. search needs)
     (λ c κs. search needs)

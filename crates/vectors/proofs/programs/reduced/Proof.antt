@@ -1,12 +1,12 @@
--- `vectors::programs::replay_of` meets its contract. Assumes nothing.
+-- `vectors::programs::reduced` meets its contract. Assumes nothing.
 use borrow.Author.Needs.{needs}
 use mathlib.Core.Path.{sym, _∙_}
 use Rattle.lines.proofs.Texts.{leaves-long}
-use Rattle.vectors.proofs.programs.replay_of.Statement.{statement}
-use Rattle.vectors.proofs.programs.replay_of.Tie as tie
+use Rattle.vectors.proofs.programs.reduced.Statement.{statement}
+use Rattle.vectors.proofs.programs.reduced.Tie as tie
 
-pub replay-of-spec : {M : Type 1} → statement M
-replay-of-spec =
+pub reduced-spec : {M : Type 1} → statement M
+reduced-spec =
     tie.close
     (tie.spec
     (λ c. search needs)
@@ -16,10 +16,8 @@ replay-of-spec =
     (λ c. search needs)
     (λ c κs. search needs)
     (λ c κs. search needs)
-    (λ c. sym (leaves-long (c .before .program .ensures) ∙ (search needs)))
-    (λ c κs. search needs)
     (λ c. search needs)
     (λ c κs. search needs)
-    (λ c κs. search needs)
+    (λ c. sym (leaves-long (c .before .before .before .program .ensures) ∙ (search needs)))
     (λ c κs. search needs)
     (λ c. search needs))
