@@ -1,4 +1,24 @@
-// The library's four functions for programs in other languages, on numbers and slices only.
+// The library's four functions for programs in other languages, on numbers and slices only. Each takes any bytes, numbers and lengths.
+//
+// An answer is told in a lent row of eight numbers: the refusal's number (0 if the call was taken), its trace and its item; then for
+// check, reduce and join the header answered, which is kind, filter, references, items and a 0, and for replay items, fetches,
+// evictions, resident and permillion. Of a refused call these five are 0, but that a replay gives back the resident count.
+//
+// A slice is two arguments, where it starts and how many elements it has; the row is one. So Rust declares, and links libabi.a:
+//
+//     #[link(name = "abi", kind = "static")]
+//     unsafe extern "C" {
+//         fn shkembruq_check(file: *const u8, file_len: usize, row: *mut [u64; 8]);
+//         fn shkembruq_reduce(file: *const u8, file_len: usize, mode: u64, filter: u64,
+//             out: *mut u8, out_len: usize, row: *mut [u64; 8]);
+//         fn shkembruq_join(first: *const u8, first_len: usize, second: *const u8, second_len: usize,
+//             out: *mut u8, out_len: usize, row: *mut [u64; 8]);
+//         fn shkembruq_replay(file: *const u8, file_len: usize, size: u64, cache: *mut u64, cache_len: usize,
+//             resident: usize, events: *mut u64, events_len: usize, row: *mut [u64; 8]);
+//     }
+//
+// What no contract here can ask, a caller sees to: each pointer is one that a Rust slice of that length could have (so not null, and
+// numbers aligned), and what is lent to be written overlaps nothing else that is lent. `as_ptr`, `as_mut_ptr` and `len` of slices do.
 use crate::rows::put_header;
 use crate::rows::put_refusal;
 use crate::rows::put_summary;
@@ -27,7 +47,7 @@ pub extern "C" fn shkembruq_check(file: &[u8], row: &mut [u64; 8])
     }
 }
 
-// Writes the reduced file to the output, and its header to the row.
+// Writes the reduced file to the output, and its header to the row; or the refusal to the row, and nothing to the output.
 #[no_mangle]
 pub extern "C" fn shkembruq_reduce(
     file: &[u8],
@@ -45,7 +65,7 @@ pub extern "C" fn shkembruq_reduce(
     }
 }
 
-// Writes the joined file to the output, and its header to the row.
+// Writes the joined file to the output, and its header to the row; or the refusal to the row, and nothing to the output.
 #[no_mangle]
 pub extern "C" fn shkembruq_join(first: &[u8], second: &[u8], out: &mut [u8], row: &mut [u64; 8])
     ensures { λ _. ⌜ now (row .exit) ≡ joinRow (joinAnswer (now (first .entry)) (now (second .entry)) (length (now (out .entry)))) ⌝ }
@@ -57,7 +77,7 @@ pub extern "C" fn shkembruq_join(first: &[u8], second: &[u8], out: &mut [u8], ro
     }
 }
 
-// Replays a file through the lent cache, writes its events, and the summary to the row.
+// Replays a file through the lent cache, writes its events, and the summary to the row; or the refusal to the row, and nothing else.
 #[no_mangle]
 pub extern "C" fn shkembruq_replay(
     file: &[u8],
