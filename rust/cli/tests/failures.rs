@@ -98,48 +98,51 @@ fn an_overlong_file_is_refused_without_being_read() {
         .is(1, "", "long: refused 3 trace 1 item 0\n");
 }
 
+/// A command line and a part of the message it gets.
+const WRONG_LINES: &[(&str, &str)] = &[
+    ("", "no command given"),
+    ("frob", "no command `frob`"),
+    ("check", "no file given"),
+    ("check --frob t", "no option --frob"),
+    ("reduce t -o d", "--mode is missing"),
+    ("reduce --mode x --filter 2 t -o d", "fastslim or demand"),
+    ("reduce --mode demand t -o d", "--filter is missing"),
+    ("reduce --mode demand --filter two t -o d", "whole number"),
+    ("reduce --mode demand --filter -2 t -o d", "whole number"),
+    (
+        "reduce --mode demand --filter 2 t",
+        "either -o or --out-dir",
+    ),
+    (
+        "reduce --mode demand --filter 2 t -o d --out-dir out",
+        "either",
+    ),
+    (
+        "reduce --mode demand --filter 2 t t -o d",
+        "takes one input",
+    ),
+    (
+        "reduce --mode demand --filter 2 t t --out-dir out",
+        "two inputs",
+    ),
+    ("reduce --mode demand --filter 2 -o d", "no file given"),
+    ("join t -o j", "further file"),
+    ("join t t", "-o is missing"),
+    ("join t t -o", "-o needs a value"),
+    ("replay t", "--cache is missing"),
+    ("replay --cache 2", "no file given"),
+    ("convert t", "-o is missing"),
+    ("convert t t -o d", "one input"),
+    ("convert --page-bits 12 t -o d", "goes with --lackey"),
+    ("convert --lackey --page-bits 64 t -o d", "0 to 63"),
+];
+
 #[test]
 fn wrong_command_lines() {
     let desk = Desk::new("usage");
     desk.put("t", &t_file());
     desk.folder("out");
-    for (words, part) in [
-        ("", "no command given"),
-        ("frob", "no command `frob`"),
-        ("check", "no file given"),
-        ("check --frob t", "no option --frob"),
-        ("reduce t -o d", "--mode is missing"),
-        ("reduce --mode x --filter 2 t -o d", "fastslim or demand"),
-        ("reduce --mode demand t -o d", "--filter is missing"),
-        ("reduce --mode demand --filter two t -o d", "whole number"),
-        ("reduce --mode demand --filter -2 t -o d", "whole number"),
-        (
-            "reduce --mode demand --filter 2 t",
-            "either -o or --out-dir",
-        ),
-        (
-            "reduce --mode demand --filter 2 t -o d --out-dir out",
-            "either",
-        ),
-        (
-            "reduce --mode demand --filter 2 t t -o d",
-            "takes one input",
-        ),
-        (
-            "reduce --mode demand --filter 2 t t --out-dir out",
-            "two inputs",
-        ),
-        ("reduce --mode demand --filter 2 -o d", "no file given"),
-        ("join t -o j", "further file"),
-        ("join t t", "-o is missing"),
-        ("join t t -o", "-o needs a value"),
-        ("replay t", "--cache is missing"),
-        ("replay --cache 2", "no file given"),
-        ("convert t", "-o is missing"),
-        ("convert t t -o d", "one input"),
-        ("convert --page-bits 12 t -o d", "goes with --lackey"),
-        ("convert --lackey --page-bits 64 t -o d", "0 to 63"),
-    ] {
+    for (words, part) in WRONG_LINES {
         desk.run(words).is_broken(part);
     }
     assert_eq!(desk.names(), ["out", "t"]);

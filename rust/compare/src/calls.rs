@@ -99,7 +99,7 @@ pub fn replay(random: &mut Random) -> Case {
         size,
         cache,
         resident,
-        events: (0..room).map(|_| random.next()).collect(),
+        events: (0..room).map(|_| random.bits()).collect(),
         file: perhaps_damaged(random, 12, file.bytes),
     }
 }
@@ -195,5 +195,5 @@ fn room(random: &mut Random, enough: usize) -> usize {
 }
 
 pub fn noise_bytes(random: &mut Random, count: usize) -> Vec<u8> {
-    (0..count).map(|_| random.next() as u8).collect()
+    (0..count).map(|_| random.bits() as u8).collect()
 }

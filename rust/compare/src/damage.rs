@@ -48,7 +48,7 @@ fn header_value(random: &mut Random, bytes: &mut [u8]) {
         0 => old.wrapping_add(1),
         1 => old.wrapping_sub(1),
         2 => random.pick(&edges).wrapping_add(random.below(2)),
-        _ => random.next(),
+        _ => random.bits(),
     };
     let length = usize::from(field.length);
     bytes[field.at + 3..][..length].copy_from_slice(&new.to_le_bytes()[..length]);
@@ -64,7 +64,7 @@ fn length(random: &mut Random, bytes: &mut Vec<u8>) {
         true => bytes.len().saturating_sub(by),
         false => bytes.len() + by,
     };
-    let filler = random.next() as u8;
+    let filler = random.bits() as u8;
     bytes.resize(length, filler);
 }
 

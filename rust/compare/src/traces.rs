@@ -82,7 +82,7 @@ impl Clock {
         let steps = [1, 2, 10, 1 << 20, 1 << 40];
         let now = match random.below(4) {
             0 => u64::MAX - random.below(50),
-            1 => random.next() >> 1,
+            1 => random.bits() >> 1,
             _ => random.below(100),
         };
         Clock {

@@ -21,7 +21,12 @@ pub fn check(file: &[u8]) -> Result<Header, Refusal> {
 
 /// The items of a file that has been checked.
 pub fn items(file: &[u8]) -> impl DoubleEndedIterator<Item = Item> {
-    file[HEADER_BYTES..].chunks_exact(ITEM_BYTES).map(read_item)
+    item_rows(file).iter().map(read_item)
+}
+
+/// The bytes of each item.
+pub fn item_rows(file: &[u8]) -> &[[u8; ITEM_BYTES]] {
+    file[HEADER_BYTES..].as_chunks().0
 }
 
 fn read_header(file: &[u8]) -> Result<Header, Refusal> {
@@ -56,7 +61,7 @@ fn keeps_the_rules(header: &Header) -> bool {
 /// The first faulty item counts, and in it the lowest number.
 fn check_items(file: &[u8]) -> Result<(), Refusal> {
     let mut before = 0;
-    for (number, bytes) in file[HEADER_BYTES..].chunks_exact(ITEM_BYTES).enumerate() {
+    for (number, bytes) in item_rows(file).iter().enumerate() {
         let item = read_item(bytes);
         let fault = if bytes[0] != ITEM_TAG || bytes[1..3] != ITEM_LENGTH.to_le_bytes() {
             4
@@ -73,7 +78,7 @@ fn check_items(file: &[u8]) -> Result<(), Refusal> {
     Ok(())
 }
 
-fn read_item(bytes: &[u8]) -> Item {
+fn read_item(bytes: &[u8; ITEM_BYTES]) -> Item {
     let number = |at: usize| u64::from_le_bytes(bytes[at..at + 8].try_into().expect("eight bytes"));
     Item {
         page: number(3),

@@ -12,6 +12,10 @@ struct Place {
 /// Stands where a link leads nowhere.
 const NONE: u32 = u32::MAX;
 
+/// The map has room for more entries than there are pages: with each fetch
+/// one goes and one comes, and a tight map would tidy up all the time.
+const SPARE: usize = 4;
+
 pub struct Lru {
     size: usize,
     place_of: PageMap<u32>,
@@ -32,7 +36,7 @@ impl Lru {
     pub fn start(size: usize, pages: &[u64]) -> Self {
         let mut list = Lru {
             size,
-            place_of: PageMap::default(),
+            place_of: PageMap::with_capacity_and_hasher(SPARE * size, Default::default()),
             places: Vec::with_capacity(size),
             newest: NONE,
             oldest: NONE,

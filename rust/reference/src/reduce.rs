@@ -1,6 +1,6 @@
 //! The two reductions.
 
-use crate::check::{check, items};
+use crate::check::{check, item_rows, items};
 use crate::page_map::PageMap;
 use types::layout::{HEADER_BYTES, ITEM_BYTES, file_bytes, put_header};
 use types::limits::LARGEST_FILTER;
@@ -48,8 +48,7 @@ struct Met {
 /// FastSlim-Demand, the phase for FastSlim. So nothing needs doing at the end
 /// of a stretch; the end of the trace ends the last one by itself.
 fn kept_items(file: &[u8], mode: u64, filter: usize) -> Vec<bool> {
-    let count = (file.len() - HEADER_BYTES) / ITEM_BYTES;
-    let mut kept = vec![true; count];
+    let mut kept = vec![true; item_rows(file).len()];
     let mut epoch: PageMap<Met> = PageMap::default();
     let mut stretch_start = 0;
     for (here, item) in items(file).enumerate() {
@@ -94,10 +93,10 @@ fn a_time_falls(file: &[u8], kept: &[bool]) -> bool {
 fn write(file: &[u8], kept: &[bool], header: &Header, out: &mut [u8]) {
     let out = &mut out[..file_bytes(header.items as usize)];
     put_header(out, header);
-    let mut places = out[HEADER_BYTES..].chunks_exact_mut(ITEM_BYTES);
-    let all = file[HEADER_BYTES..].chunks_exact(ITEM_BYTES);
-    for (bytes, _) in all.zip(kept).filter(|(_, kept)| **kept) {
-        let place = places.next().expect("a place for each kept item");
-        place.copy_from_slice(bytes);
+    let (places, _) = out[HEADER_BYTES..].as_chunks_mut::<ITEM_BYTES>();
+    let rows = item_rows(file).iter().zip(kept);
+    let kept_rows = rows.filter(|(_, kept)| **kept).map(|(row, _)| row);
+    for (place, row) in places.iter_mut().zip(kept_rows) {
+        *place = *row;
     }
 }
