@@ -102,3 +102,38 @@ pub fn replay(
         )
     }
 }
+
+/// What the numbers of a row mean is for its readers; here all eight are
+/// looked at, so that the archive's side of the bargain is seen to be kept.
+#[cfg(test)]
+mod tests {
+    use super::*;
+    use types::layout::whole;
+
+    #[test]
+    fn a_taken_check_ends_its_row_with_0() {
+        let mut row = Row::new();
+        check(&whole(&[]), &mut row);
+        assert_eq!((row.0[0], &row.0[3..]), (0, &[0; 5][..]));
+    }
+
+    #[test]
+    fn a_refused_row_holds_nothing_else() {
+        let mut row = Row::new();
+        check(&[], &mut row);
+        assert_eq!(row.0, [1, 1, 0, 0, 0, 0, 0, 0]);
+        let mut row = Row::new();
+        reduce(&whole(&[]), 3, 1, &mut [], &mut row);
+        assert_eq!(row.0, [7, 1, 0, 0, 0, 0, 0, 0]);
+        let mut row = Row::new();
+        join(&whole(&[]), &[], &mut [], &mut row);
+        assert_eq!(row.0, [1, 2, 0, 0, 0, 0, 0, 0]);
+    }
+
+    #[test]
+    fn a_refused_replay_gives_the_resident_count_back() {
+        let mut row = Row::new();
+        replay(&whole(&[]), 2, &mut [], 9, &mut [], &mut row);
+        assert_eq!(row.0, [10, 1, 0, 0, 0, 0, 9, 0]);
+    }
+}

@@ -1,5 +1,6 @@
 //! A call as data: what is handed over, lent buffers with all they hold.
 
+use crate::frame::framed;
 use std::fmt;
 use types::{Header, Library, Refusal, Summary};
 
@@ -53,15 +54,21 @@ impl Case {
                 mode,
                 filter,
                 out,
-            } => Answer::Header(library.reduce(file, *mode, *filter, out)),
-            Case::Join { first, second, out } => Answer::Header(library.join(first, second, out)),
+            } => Answer::Header(framed(out, |out| library.reduce(file, *mode, *filter, out))),
+            Case::Join { first, second, out } => {
+                Answer::Header(framed(out, |out| library.join(first, second, out)))
+            }
             Case::Replay {
                 file,
                 size,
                 cache,
                 resident,
                 events,
-            } => Answer::Summary(library.replay(file, *size, cache, *resident, events)),
+            } => Answer::Summary(framed(cache, |cache| {
+                framed(events, |events| {
+                    library.replay(file, *size, cache, *resident, events)
+                })
+            })),
         }
     }
 

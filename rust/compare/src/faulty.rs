@@ -2,7 +2,7 @@
 //! time if it finds every one of them.
 
 use reference::Reference;
-use std::collections::HashSet;
+use std::collections::{HashSet, VecDeque};
 use types::layout::{HEADER_BYTES, ITEM_BYTES, encode, file_bytes, put_header};
 use types::{Header, Item, Library, Refusal, Summary};
 
@@ -12,6 +12,8 @@ pub enum Fault {
     WritesAnEmptyTrace,
     CopiesItsInput,
     KeepsOnlyMisses,
+    TreatsTheFilterAsACache,
+    WritesLastsAtTheEnd,
     DropsLastsOfUnfinishedEpoch,
     WritesOneByteTooMany,
     ForgetsTheMode,
@@ -31,11 +33,13 @@ pub enum Fault {
 
 use Fault::*;
 
-pub const ALL: [Fault; 19] = [
+pub const ALL: [Fault; 21] = [
     RefusesEveryReduction,
     WritesAnEmptyTrace,
     CopiesItsInput,
     KeepsOnlyMisses,
+    TreatsTheFilterAsACache,
+    WritesLastsAtTheEnd,
     DropsLastsOfUnfinishedEpoch,
     WritesOneByteTooMany,
     ForgetsTheMode,
@@ -151,20 +155,8 @@ impl Faulty {
         before: &[u8],
         out: &mut [u8],
     ) -> Header {
-        let all = items(file);
         let kept = items(&out[..file_bytes(header.items as usize)]);
-        let (firsts, last_epoch) = firsts(&all, header.filter as usize);
-        let items = match self.0 {
-            WritesAnEmptyTrace => Vec::new(),
-            CopiesItsInput => all,
-            KeepsOnlyMisses => firsts.iter().map(|place| all[*place]).collect(),
-            DropsLastsOfUnfinishedEpoch => {
-                let in_last = all.len() - last_epoch;
-                let finished = kept.len().saturating_sub(in_last);
-                kept[..finished].to_vec()
-            }
-            _ => kept,
-        };
+        let items = self.spoil_kept(items(file), kept, header.filter as usize);
         let header = Header {
             items: items.len() as u64,
             ..header
@@ -176,6 +168,34 @@ impl Faulty {
             out[bytes.len()] = out[bytes.len()].wrapping_add(1);
         }
         header
+    }
+
+    /// Other items than those that should be kept.
+    fn spoil_kept(&self, all: Vec<Item>, kept: Vec<Item>, filter: usize) -> Vec<Item> {
+        let (firsts, last_epoch) = firsts(&all, filter);
+        match self.0 {
+            WritesAnEmptyTrace => Vec::new(),
+            CopiesItsInput => all,
+            KeepsOnlyMisses => firsts.iter().map(|place| all[*place]).collect(),
+            TreatsTheFilterAsACache => cache_misses(&all, filter),
+            WritesLastsAtTheEnd => {
+                let is_first = |item: &Item| firsts.iter().any(|place| all[*place] == *item);
+                let (mut early, late): (Vec<Item>, _) = kept.into_iter().partition(is_first);
+                early.extend(late);
+                early
+            }
+            DropsLastsOfUnfinishedEpoch => {
+                let is_dropped = |item: &&Item| {
+                    let place = all.iter().rposition(|other| other == *item);
+                    place.is_some_and(|place| place >= last_epoch && !firsts.contains(&place))
+                };
+                kept.iter()
+                    .filter(|item| !is_dropped(item))
+                    .copied()
+                    .collect()
+            }
+            _ => kept,
+        }
     }
 
     fn spoil_replay(
@@ -227,4 +247,21 @@ fn firsts(items: &[Item], filter: usize) -> (Vec<usize>, usize) {
         firsts.push(place);
     }
     (firsts, start)
+}
+
+/// The items kept if a full filter gave up one page instead of all.
+fn cache_misses(items: &[Item], filter: usize) -> Vec<Item> {
+    let mut filled: VecDeque<u64> = VecDeque::new();
+    let mut missed = Vec::new();
+    for item in items {
+        if filled.contains(&item.page) {
+            continue;
+        }
+        if filled.len() == filter {
+            filled.pop_front();
+        }
+        filled.push_back(item.page);
+        missed.push(*item);
+    }
+    missed
 }

@@ -6,6 +6,7 @@ pub mod case;
 pub mod damage;
 pub mod faulty;
 pub mod files;
+mod frame;
 pub mod judge;
 pub mod random;
 pub mod report;
