@@ -1,0 +1,32 @@
+//! The table of results.
+
+use crate::job::Job;
+use crate::timing::Times;
+use crate::traces::{ITEMS, Trace};
+use std::io::Write;
+use std::time::Duration;
+
+pub fn head(rounds: usize) {
+    println!("{ITEMS} items, median of {rounds} rounds, the two libraries taking turns.");
+    println!("Buffers are made once for each line and not cleared between rounds; a");
+    println!("replay starts with an empty cache. Ratio: proved time / reference time.");
+    println!();
+    println!(
+        "{:<12} {:<24} {:>14} {:>17} {:>8}",
+        "trace", "call", "proved ns/item", "reference ns/item", "ratio"
+    );
+}
+
+pub fn line(job: &Job, trace: &Trace, times: &Times) {
+    let each = |time: Duration| time.as_nanos() as f64 / ITEMS as f64;
+    println!(
+        "{:<12} {:<24} {:>14.2} {:>17.2} {:>8.2}",
+        trace.name,
+        job.name(),
+        each(times.proved),
+        each(times.reference),
+        times.proved.as_secs_f64() / times.reference.as_secs_f64()
+    );
+    // A line takes a while; show it as soon as it is there.
+    let _ = std::io::stdout().flush();
+}

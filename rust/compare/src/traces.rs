@@ -1,0 +1,116 @@
+//! Random traces of several shapes.
+
+use crate::Random;
+use types::Item;
+use types::limits::RESERVED_PAGE;
+
+/// How the next page is chosen from the pool.
+#[derive(Clone, Copy)]
+enum Shape {
+    Uniform,
+    Loop,
+    /// The first pages of the pool far more often than the last.
+    Skewed,
+    /// The same page again and again.
+    Bursts,
+}
+
+/// A pool of distinct pages: either side by side or all over the 64 bits, up
+/// to the last page that is allowed.
+pub fn pool(random: &mut Random, pages: usize) -> Vec<u64> {
+    let spread = random.once_in(3);
+    let last = RESERVED_PAGE - 1;
+    let base = match random.below(3) {
+        0 => 0,
+        1 => last - pages as u64,
+        _ => random.below(last - pages as u64),
+    };
+    (0..pages as u64)
+        .map(|number| match spread {
+            // The odd factor keeps pages distinct; the top bit off keeps them
+            // clear of the reserved page.
+            true => number.wrapping_mul(0xD6E8_FEB8_6659_FD93) & (u64::MAX >> 1),
+            false => base + number,
+        })
+        .collect()
+}
+
+/// So many items over the pages of the pool.
+pub fn items(random: &mut Random, pool: &[u64], count: usize) -> Vec<Item> {
+    let shapes = [Shape::Uniform, Shape::Loop, Shape::Skewed, Shape::Bursts];
+    let mut shape = random.pick(&shapes);
+    let mut clock = Clock::new(random);
+    let mut place = 0;
+    (0..count)
+        .map(|_| {
+            // Now and then the trace turns to another shape.
+            if random.once_in(50) {
+                shape = random.pick(&shapes);
+            }
+            place = next_place(random, shape, place, pool.len());
+            Item {
+                page: pool[place],
+                time: clock.next(random),
+            }
+        })
+        .collect()
+}
+
+fn next_place(random: &mut Random, shape: Shape, place: usize, pages: usize) -> usize {
+    match shape {
+        Shape::Uniform => random.index(pages),
+        Shape::Loop => (place + 1) % pages,
+        Shape::Skewed => {
+            let bound = random.index(pages) + 1;
+            let bound = random.index(bound) + 1;
+            random.index(bound)
+        }
+        Shape::Bursts if random.once_in(5) => random.index(pages),
+        Shape::Bursts => place,
+    }
+}
+
+/// Times that never fall; equal ones are common, and the last time of 64 bits
+/// is reached now and then.
+struct Clock {
+    now: u64,
+    step: u64,
+}
+
+impl Clock {
+    fn new(random: &mut Random) -> Self {
+        let steps = [1, 2, 10, 1 << 20, 1 << 40];
+        let now = match random.below(4) {
+            0 => u64::MAX - random.below(50),
+            1 => random.bits() >> 1,
+            _ => random.below(100),
+        };
+        Clock {
+            now,
+            step: random.pick(&steps),
+        }
+    }
+
+    fn next(&mut self, random: &mut Random) -> u64 {
+        self.now = self.now.saturating_add(random.below(self.step + 1));
+        self.now
+    }
+}
+
+/// A length for a trace: mostly short, sometimes long.
+pub fn length(random: &mut Random) -> usize {
+    let bound = match random.below(60) {
+        0 => 6000,
+        1..4 => 800,
+        4..20 => 100,
+        20..50 => 25,
+        _ => 4,
+    };
+    random.index(bound)
+}
+
+/// A number of pages for a pool: mostly few, so that pages come again.
+pub fn pages(random: &mut Random) -> usize {
+    let bound = random.pick(&[1, 2, 4, 8, 8, 30, 30, 200, 1500]);
+    1 + random.index(bound)
+}

@@ -1,0 +1,170 @@
+//! A trace cut anywhere, each part reduced in its own way or left whole, and
+//! joined again: from every start a cache at least as large as the largest
+//! filter makes the same fetches, at the same times, and ends alike.
+
+use bindings::Proved;
+use compare::report::say;
+use compare::{Random, traces};
+use reference::Reference;
+use types::layout::{file_bytes, whole};
+use types::limits::{LARGEST_CACHE, LARGEST_FILTER};
+use types::{Item, Library, Summary};
+
+const TRACES: u64 = 4_000;
+const REPLAYS_EACH: u64 = 3;
+
+struct Replayed {
+    summary: Summary,
+    events: Vec<u64>,
+    cache: Vec<u64>,
+}
+
+#[test]
+fn of_the_proved_library() {
+    reductions_replay_alike("proved", &Proved);
+}
+
+#[test]
+fn of_the_reference() {
+    reductions_replay_alike("reference", &Reference);
+}
+
+fn reductions_replay_alike(name: &str, library: &dyn Library) {
+    let seed = Random::seed();
+    let mut random = Random::new(seed ^ 3);
+    let (mut replays, mut shorter, mut evictions) = (0, 0, 0);
+    for number in 0..TRACES {
+        let pages = traces::pages(&mut random);
+        let pool = traces::pool(&mut random, pages);
+        let count = traces::length(&mut random);
+        let items = traces::items(&mut random, &pool, count);
+        let (joined, largest) = cut_reduced_joined(&mut random, library, &items);
+        let whole = whole(&items);
+        shorter += u64::from(joined.len() < whole.len());
+        for _ in 0..REPLAYS_EACH {
+            let size = cache_size(&mut random, largest);
+            let start = start(&mut random, &pool, size);
+            let one = replay(library, &whole, size, &start);
+            let two = replay(library, &joined, size, &start);
+            same(
+                &one,
+                &two,
+                &format!("seed {seed} trace {number} size {size}"),
+            );
+            replays += 1;
+            evictions += one.summary.evictions;
+        }
+    }
+    say(&format!(
+        "demand 3, {name}: seed {seed}, {TRACES} traces, {shorter} made shorter, \
+         {replays} replays, {evictions} evictions"
+    ));
+    // Otherwise the test would have shown nothing.
+    assert_eq!(replays, TRACES * REPLAYS_EACH);
+    assert!(shorter > TRACES / 3 && evictions > TRACES);
+}
+
+fn same(one: &Replayed, two: &Replayed, place: &str) {
+    assert_eq!(one.events, two.events, "{place}: events");
+    assert_eq!(one.cache, two.cache, "{place}: resident pages");
+    let (one, two) = (one.summary, two.summary);
+    assert_eq!(
+        (one.fetches, one.evictions, one.resident),
+        (two.fetches, two.evictions, two.resident),
+        "{place}: counts"
+    );
+    let rate = (two.fetches * 1_000_000).checked_div(two.items);
+    assert_eq!(two.permillion, rate.unwrap_or(0), "{place}: rate");
+}
+
+/// The joined file and the largest filter in it.
+fn cut_reduced_joined(
+    random: &mut Random,
+    library: &dyn Library,
+    items: &[Item],
+) -> (Vec<u8>, u64) {
+    let mut joined = whole(&[]);
+    let (mut rest, mut largest) = (items, 0);
+    loop {
+        let last = random.once_in(3);
+        let at = match last {
+            true => rest.len(),
+            false => random.index(rest.len() + 1),
+        };
+        let (part, after) = rest.split_at(at);
+        let (part, filter) = perhaps_reduced(random, library, part);
+        largest = largest.max(filter);
+        joined = join(library, &joined, &part);
+        rest = after;
+        if last {
+            return (joined, largest);
+        }
+    }
+}
+
+fn perhaps_reduced(random: &mut Random, library: &dyn Library, items: &[Item]) -> (Vec<u8>, u64) {
+    let file = whole(items);
+    if random.once_in(6) {
+        return (file, 0);
+    }
+    let filter = match random.below(12) {
+        0 => 1 + random.below(LARGEST_FILTER),
+        1..4 => 1 + random.below(40),
+        _ => 1 + random.below(5),
+    };
+    let mode = 1 + random.below(2);
+    let mut out = vec![0; file.len()];
+    let header = library
+        .reduce(&file, mode, filter, &mut out)
+        .expect("taken");
+    out.truncate(file_bytes(header.items as usize));
+    (out, filter)
+}
+
+fn join(library: &dyn Library, first: &[u8], second: &[u8]) -> Vec<u8> {
+    let mut out = vec![0; first.len() + second.len()];
+    let header = library.join(first, second, &mut out).expect("taken");
+    out.truncate(file_bytes(header.items as usize));
+    out
+}
+
+/// At least the largest filter, and often exactly that.
+fn cache_size(random: &mut Random, largest: u64) -> u64 {
+    let least = largest.max(1);
+    match random.below(4) {
+        0 | 1 => least,
+        2 => least + random.below(10),
+        _ => least + random.below(LARGEST_CACHE - least + 1),
+    }
+}
+
+/// Distinct pages, some of the trace and some strange to it.
+fn start(random: &mut Random, pool: &[u64], size: u64) -> Vec<u64> {
+    let mut pages: Vec<u64> = pool.to_vec();
+    pages.extend((0..20).map(|_| random.bits() >> 1));
+    pages.sort_unstable();
+    pages.dedup();
+    let count = random.index(pages.len().min(size as usize) + 1);
+    (0..count)
+        .map(|_| {
+            let place = random.index(pages.len());
+            pages.swap_remove(place)
+        })
+        .collect()
+}
+
+fn replay(library: &dyn Library, file: &[u8], size: u64, start: &[u64]) -> Replayed {
+    let mut cache = start.to_vec();
+    cache.resize(size as usize, 0);
+    let mut events = vec![0; 3 * (file.len() - 23) / 19];
+    let summary = library
+        .replay(file, size, &mut cache, start.len(), &mut events)
+        .expect("taken");
+    events.truncate(3 * summary.fetches as usize);
+    cache.truncate(summary.resident as usize);
+    Replayed {
+        summary,
+        events,
+        cache,
+    }
+}

@@ -1,0 +1,244 @@
+//! Each refusal with its trace and item, the order among them, and the
+//! buffers they leave alone.
+
+use reference::{Header, Refusal, check, join, reduce, replay};
+use types::Item;
+use types::layout::{encode, whole};
+
+fn items(count: u64) -> Vec<Item> {
+    (0..count)
+        .map(|n| Item {
+            page: n % 3,
+            time: n,
+        })
+        .collect()
+}
+
+fn file(kind: u64, filter: u64, references: u64, count: u64) -> Vec<u8> {
+    let header = Header {
+        kind,
+        filter,
+        references,
+        items: count,
+    };
+    encode(&header, &items(count))
+}
+
+/// A copy of the file with one byte replaced.
+fn with(file: &[u8], at: usize, byte: u8) -> Vec<u8> {
+    let mut copy = file.to_vec();
+    copy[at] = byte;
+    copy
+}
+
+fn refused(number: u64) -> Result<Header, Refusal> {
+    Err(Refusal::new(number))
+}
+
+#[test]
+fn header_marks_are_refused_1() {
+    let good = file(0, 0, 2, 2);
+    for at in [0, 1, 2, 4, 5, 6, 9, 10, 11, 16, 17, 18] {
+        assert_eq!(check(&with(&good, at, 0xAA)), refused(1), "byte {at}");
+    }
+    assert_eq!(check(&[]), refused(1));
+}
+
+#[test]
+fn header_values_are_refused_2() {
+    for (kind, filter, references, count) in [
+        (0, 1, 2, 2),
+        (0, 0, 3, 2),
+        (0, 0, 1, 2),
+        (1, 0, 2, 2),
+        (1, 1025, 2, 2),
+        (2, 0, 2, 2),
+        (2, 1025, 2, 2),
+        (2, 2, 1, 2),
+        (1, 2, 5, 0),
+        (3, 2, 2, 2),
+        (255, 0, 2, 2),
+    ] {
+        let bytes = file(kind, filter, references, count);
+        assert_eq!(check(&bytes), refused(2), "{kind} {filter} {references}");
+    }
+    let too_many = Header {
+        kind: 0,
+        filter: 0,
+        references: 1_000_001,
+        items: 1_000_001,
+    };
+    // The value is refused before the length is looked at.
+    assert_eq!(check(&encode(&too_many, &[])), refused(2));
+}
+
+#[test]
+fn good_headers_are_taken() {
+    for (kind, filter, references, count) in [
+        (0, 0, 0, 0),
+        (0, 0, 4, 4),
+        (1, 1, 4, 4),
+        (1, 1024, 0xFFFF_FFFF, 1),
+        (2, 1024, 5, 4),
+        (2, 1, 0, 0),
+    ] {
+        assert!(check(&file(kind, filter, references, count)).is_ok());
+    }
+}
+
+#[test]
+fn lengths_are_refused_3() {
+    let good = file(0, 0, 2, 2);
+    assert_eq!(check(&good[..good.len() - 1]), refused(3));
+    assert_eq!(check(&[&good[..], &[5]].concat()), refused(3));
+    assert_eq!(check(&good[..23]), refused(3));
+}
+
+#[test]
+fn items_are_refused_4_to_6_and_the_first_faulty_counts() {
+    let good = file(0, 0, 4, 4);
+    for at in 0..3 {
+        let damaged = with(&good, 23 + 19 * 2 + at, 0xAA);
+        assert_eq!(check(&damaged), Err(Refusal::of_item(4, 2)));
+    }
+    let mut reserved = items(4);
+    reserved[1].page = u64::MAX;
+    reserved[3].time = 0;
+    assert_eq!(check(&whole(&reserved)), Err(Refusal::of_item(5, 1)));
+    let mut falling = items(4);
+    falling[3].time = 1;
+    assert_eq!(check(&whole(&falling)), Err(Refusal::of_item(6, 3)));
+    // All three faults in one item: the lowest number.
+    falling[3].page = u64::MAX;
+    assert_eq!(check(&whole(&falling)), Err(Refusal::of_item(5, 3)));
+    let all_three = with(&whole(&falling), 23 + 19 * 3, 6);
+    assert_eq!(check(&all_three), Err(Refusal::of_item(4, 3)));
+}
+
+#[test]
+fn reduce_refuses_in_order_and_leaves_the_output() {
+    let good = file(0, 0, 4, 4);
+    let slim = file(1, 2, 4, 4);
+    let mut out = vec![9; good.len()];
+    let room = good.len();
+    for (bytes, mode, filter, room, number) in [
+        (&good[..30], 0, 0, 0, 3),
+        (&slim, 0, 1, 0, 7),
+        (&slim, 3, 1, 0, 7),
+        (&slim, 1, 0, 0, 7),
+        (&slim, 1, 1025, 0, 7),
+        (&slim, 1, 1, 0, 8),
+        (&good, 1, 1, room - 1, 11),
+    ] {
+        let answer = reduce(bytes, mode, filter, &mut out[..room]);
+        assert_eq!(answer, refused(number));
+    }
+    assert!(out.iter().all(|byte| *byte == 9));
+    assert!(reduce(&good, 1, 1, &mut out).is_ok());
+}
+
+#[test]
+fn join_refuses_in_order_and_leaves_the_output() {
+    let good = file(0, 0, 4, 4);
+    let mut out = vec![9; 23 + 19 * 8];
+    let bad_item = with(&good, 23 + 19, 6);
+    assert_eq!(join(&bad_item, &[], &mut out), Err(Refusal::of_item(4, 1)));
+    let second = Err(Refusal::of_item(4, 1).in_second());
+    assert_eq!(join(&good, &bad_item, &mut out), second);
+    let cut = Err(Refusal::new(3).in_second());
+    assert_eq!(join(&good, &good[..40], &mut out), cut);
+    // 12 before 13 before 11.
+    let many = file(2, 8, 0xFFFF_FFFF, 4);
+    assert_eq!(join(&good, &many, &mut []), refused(12));
+    let later = encode(&check(&many).unwrap(), &items(9)[5..]);
+    assert_eq!(join(&good, &later, &mut []), refused(13));
+    let later = whole(&items(9)[5..]);
+    let short = out.len() - 1;
+    assert_eq!(join(&good, &later, &mut out[..short]), refused(11));
+    assert!(out.iter().all(|byte| *byte == 9));
+    assert!(join(&good, &later, &mut out).is_ok());
+}
+
+#[test]
+fn join_of_empty_files_never_falls() {
+    let (empty, good) = (whole(&[]), file(0, 0, 4, 4));
+    let mut out = vec![9; good.len() + 1];
+    assert_eq!(join(&good, &empty, &mut out), check(&good));
+    assert_eq!(out, [&good[..], &[9]].concat());
+    assert_eq!(join(&empty, &good, &mut out), check(&good));
+    assert_eq!(out, [&good[..], &[9]].concat());
+}
+
+#[test]
+fn join_over_a_million_items_is_refused_13() {
+    let half = whole(&vec![Item { page: 1, time: 1 }; 500_001]);
+    assert_eq!(join(&half, &half, &mut []), refused(13));
+    let exactly = whole(&vec![Item { page: 1, time: 1 }; 499_999]);
+    assert_eq!(join(&half, &exactly, &mut []), refused(11));
+}
+
+#[test]
+fn joined_kinds() {
+    let mut out = vec![0; 23 + 19 * 2];
+    for (one, two, joined) in [
+        (0, 0, 0),
+        (0, 1, 1),
+        (1, 0, 1),
+        (1, 1, 1),
+        (0, 2, 2),
+        (2, 0, 2),
+        (1, 2, 2),
+        (2, 1, 2),
+        (2, 2, 2),
+    ] {
+        let of_kind = |kind: u64| file(kind, kind.min(1) * (4 + kind), 1, 1);
+        let header = join(&of_kind(one), &of_kind(two), &mut out).unwrap();
+        assert_eq!(header.kind, joined, "{one} with {two}");
+        assert_eq!(header.filter, [0, 5, 6][one.max(two) as usize]);
+        assert_eq!((header.references, header.items), (2, 2));
+    }
+}
+
+#[test]
+fn replay_refuses_in_order_and_leaves_the_buffers() {
+    let slim = file(2, 2, 4, 4);
+    let noise = [7, 8, 7, u64::MAX, 9];
+    let (mut cache, mut events) = (noise, [3; 12]);
+    for (bytes, size, places, resident, room, number) in [
+        (&slim[..22], 0, 5, 9, 12, 1),
+        (&slim[..], 0, 5, 9, 12, 7),
+        (&slim, 4097, 5, 9, 12, 7),
+        (&slim, 1, 5, 9, 12, 9),
+        (&slim, 2, 5, 3, 11, 10),
+        (&slim, 2, 1, 1, 11, 10),
+        (&slim, 3, 5, 3, 11, 10),
+        (&slim, 4, 5, 4, 11, 10),
+        (&slim, 6, 5, 1, 11, 10),
+        (&slim, 2, 5, 2, 11, 11),
+    ] {
+        let answer = replay(
+            bytes,
+            size,
+            &mut cache[..places],
+            resident,
+            &mut events[..room],
+        );
+        assert_eq!(answer, Err((Refusal::new(number), resident as u64)));
+    }
+    assert_eq!((cache, events), (noise, [3; 12]));
+    assert!(replay(&slim, 2, &mut cache, 2, &mut events).is_ok());
+}
+
+#[test]
+fn places_beyond_keep_what_they_had() {
+    let short = whole(&items(2));
+    let (mut cache, mut events) = ([1, 77, 78, 79], [5; 9]);
+    let summary = replay(&short, 3, &mut cache, 1, &mut events).unwrap();
+    // Page 0 is fetched, page 1 was there from the start.
+    assert_eq!((summary.fetches, summary.resident), (1, 2));
+    assert_eq!(cache, [1, 0, 78, 79]);
+    assert_eq!(events, [0, 0, u64::MAX, 5, 5, 5, 5, 5, 5]);
+    let mut out = vec![9; short.len() + 4];
+    reduce(&short, 2, 1, &mut out).unwrap();
+    assert_eq!(out[short.len()..], [9; 4]);
+}
