@@ -5,6 +5,7 @@ mod desk;
 
 use desk::{Desk, t, t_file};
 use std::fs;
+use types::Item;
 use types::layout::whole;
 
 #[test]
@@ -180,13 +181,15 @@ fn files_that_cannot_be_written() {
     let reduce = "reduce --mode demand --filter 2";
     desk.run(&format!("{reduce} t -o folder"))
         .is_broken("not a regular file");
-    desk.run(&format!("{reduce} t -o /dev/null"))
+    // A device, by a name in this folder: a rename would hit only that name.
+    std::os::unix::fs::symlink("/dev/null", desk.path("device")).unwrap();
+    desk.run(&format!("{reduce} t -o device"))
         .is_broken("not a regular file");
     desk.run(&format!("{reduce} t -o no/d"))
         .is_broken("no/d: No such file");
     desk.run(&format!("{reduce} t --out-dir no"))
         .is_broken("no such folder");
-    assert_eq!(desk.names(), ["folder", "t"]);
+    assert_eq!(desk.names(), ["device", "folder", "t"]);
 }
 
 #[test]
@@ -239,4 +242,29 @@ fn a_numbered_file_is_kept_off_the_input() {
     desk.run("convert t.0 -o t")
         .is_broken("is an input as well");
     assert_eq!(desk.names(), ["t.0"]);
+}
+
+#[test]
+fn a_write_that_stops_half_way_leaves_nothing() {
+    let desk = Desk::new("half-way");
+    let item = |page| Item { page, time: page };
+    desk.put("t", &whole(&(0..1000).map(item).collect::<Vec<_>>()));
+    desk.put("old", b"what was there before");
+    let reduce = "reduce --mode demand --filter 9 t -o";
+    desk.run_short_of_room(&format!("{reduce} old"))
+        .is_broken("old: File too large");
+    desk.run_short_of_room(&format!("{reduce} new"))
+        .is_broken("new: File too large");
+    assert_eq!(desk.get("old"), b"what was there before");
+    assert_eq!(desk.names(), ["old", "t"]);
+}
+
+#[test]
+fn of_numbered_files_all_are_written_or_none() {
+    let desk = Desk::new("numbered-none");
+    desk.put("lines", "7 7\n".repeat(1_000_001).as_bytes());
+    desk.folder("t.1");
+    desk.run("convert lines -o t")
+        .is_broken("t.1: not a regular file");
+    assert_eq!(desk.names(), ["lines", "t.1"]);
 }

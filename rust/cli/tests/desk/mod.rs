@@ -57,12 +57,22 @@ impl Desk {
     }
 
     pub fn run_with(&self, words: &str, input: Stdio) -> Ended {
-        let output = Command::new(env!("CARGO_BIN_EXE_shkembruq"))
-            .current_dir(&self.0)
-            .args(words.split_whitespace())
-            .stdin(input)
-            .output()
-            .unwrap();
+        let mut command = Command::new(env!("CARGO_BIN_EXE_shkembruq"));
+        self.end(command.args(words.split_whitespace()).stdin(input))
+    }
+
+    /// Runs where no file can grow beyond one block.
+    pub fn run_short_of_room(&self, words: &str) -> Ended {
+        let mut command = Command::new("sh");
+        command
+            .args(["-c", "trap '' XFSZ; ulimit -f 1; exec \"$0\" \"$@\""])
+            .arg(env!("CARGO_BIN_EXE_shkembruq"))
+            .args(words.split_whitespace());
+        self.end(&mut command)
+    }
+
+    fn end(&self, command: &mut Command) -> Ended {
+        let output = command.current_dir(&self.0).output().unwrap();
         Ended {
             status: output.status.code().unwrap(),
             out: String::from_utf8(output.stdout).unwrap(),
