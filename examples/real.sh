@@ -17,12 +17,12 @@ recorded() { # NAME COMMAND..: the command's references, as traces of at most 1,
     rm "$name.log"
 }
 
-lines() { # CACHE FILE: what a replay prints, without the tally
-    "$tool" replay --cache "$1" "$2" | sed '/^items /d'
+lines() { # CACHE FILE: what a replay prints, without the tally; fails where the replay does
+    "$tool" replay --cache "$1" "$2" >all && sed '/^items /d' all
 }
 
 compared() { # NAME MODE FILTER: one row of the table
-    kept=0 whole=0 same=0
+    kept=0 whole=0 replays=0 fetches=0
     for part in "$1" "$1".[0-9]*; do
         [ -f "$part" ] || continue
         "$tool" reduce --mode "$2" --filter "$3" "$part" -o reduced >row
@@ -31,11 +31,11 @@ compared() { # NAME MODE FILTER: one row of the table
             lines "$cache" "$part" >one
             lines "$cache" reduced >two
             cmp -s one two || { echo "$1 $2 $3: the lines differ at cache size $cache" >&2; exit 1; }
-            same=$((same + 1))
+            replays=$((replays + 1)) fetches=$((fetches + $(wc -l <one) - 1))
         done
         rm reduced
     done
-    echo "| \`$1\` | $2 | $3 | $whole | $kept | $(awk "BEGIN { printf \"%.2f\", 100 * $kept / $whole }") | $same of $same |"
+    echo "| \`$1\` | $2 | $3 | $whole | $kept | $(awk "BEGIN { printf \"%.2f\", 100 * $kept / $whole }") | $replays | $fetches |"
 }
 
 awk 'BEGIN { for (i = 1; i <= 400; i++) print (i * 7919) % 10007, "line", i }' >text
@@ -43,8 +43,8 @@ recorded sort sort text
 recorded gzip gzip -c text
 recorded awk awk '{ s[$1 % 97] += $3 } END { for (k in s) print k, s[k] }' text
 
-echo '| command | mode | filter | references | kept | percent | replays alike |'
-echo '|---|---|---|---|---|---|---|'
+echo '| command | mode | filter | references | kept | percent | replays compared | fetch lines, all the same |'
+echo '|---|---|---|---|---|---|---|---|'
 for name in sort gzip awk; do
     for filter in 16 64 256 1024; do
         for mode in fastslim demand; do compared $name $mode $filter; done
