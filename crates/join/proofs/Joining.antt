@@ -1,17 +1,17 @@
 -- `join`, from its verdict and from what is copied. Assumes nothing.
 use Prim.Native.Nat.{ℕ, _+_, _-_, _*_, _^_, _≤_}
 use mathlib.Core.Path.{_≡_, refl, sym, _∙_}
-use mathlib.Core.Bool.{false, not}
+use mathlib.Core.Bool.{true, false, not}
 use mathlib.Core.List.{List, _++_}
 use native.Mathlib.Omega.{arith}
 use lib.ListN.{length, length-append}
 use lib.Seq.{sets}
 use lib.Dec.{leb, ltb}
-use borrow.Author.Tests.{leb-true, ltb-false, not-false}
+use borrow.Author.Tests.{leb-true, le-leb, ltb-false, le-ltb, not-false}
 use Rattle.limits.specs.Sizes.{between}
 use Rattle.limits.proofs.Numbers.{itemsLeast, itemsMost}
 use Rattle.pages.specs.Rows.{over}
-use Rattle.pages.proofs.Choice.{and-true, or-false}
+use Rattle.pages.proofs.Choice.{and-true, and-both, or-false}
 use Rattle.trace.specs.Layout.{header, items, itemsFrom, encodeHeader, encodeItems}
 use Rattle.trace.specs.Refusals.{row, ofSecond}
 use Rattle.trace.specs.Verdict.{first}
@@ -20,7 +20,7 @@ use Rattle.trace.specs.declared.Header.{Header}
 use Rattle.trace.specs.declared.Refusal.{Refusal}
 use Rattle.trace.specs.declared.Verdict.{Verdict}
 use Rattle.trace.specs.declared.Verdict.the-variants.{Sound, Faulty}
-use Rattle.trace.proofs.Sound.{first-passed}
+use Rattle.trace.proofs.Sound.{first-passed, passed-first}
 use Rattle.trace.proofs.Checking.{sound-file}
 use Rattle.trace.proofs.Items.{items-from, length-from}
 use Rattle.trace.proofs.Output.{Wrote, wrote-then, wrote-file}
@@ -55,6 +55,11 @@ all-sound Sound Sound (Faulty r) e = absurd (not-both (row r) e)
 all-sound Sound (Faulty r) w e = absurd (not-both (ofSecond (row r)) e)
 all-sound (Faulty r) v w e = absurd (not-both (row r) e)
 
+-- And where each is, it passes.
+sound-all : (u v w : Verdict) → u ≡ Sound → v ≡ Sound → w ≡ Sound
+    → elim u [ Faulty r ↦ Failed (row r) | Sound ↦ elim v [ Faulty r ↦ Failed (ofSecond (row r)) | Sound ↦ elim w [ Faulty r ↦ Failed (row r) | Sound ↦ Passed ] ] ] ≡ Passed
+sound-all u v w p q r = rw (p, q, r)
+
 -- The sizes that are not too large.
 sizes : (f g : List ℕ) → tooLarge f g ≡ false → (header f .items + header g .items ≤ itemsMost) × (header f .references + header g .references ≤ 2 ^ 32 - 1)
 unfolding tooLarge joinedHeader
@@ -80,6 +85,16 @@ passed-joinable f g room e =
       references-few = references;
       fits = ltb-false room (23 + 19 * (header f .items + header g .items)) (search passed);
     }
+
+-- And such a join is not refused.
+pub joinable-passed : (f g : List ℕ) (room : ℕ) → Joinable f g room → judged f g room ≡ Passed
+unfolding judged joinedHeader tooLarge
+joinable-passed f g room a =
+    let n = header f .items + header g .items in
+    let few : between itemsLeast itemsMost n ≡ true = and-both (leb itemsLeast n) (leb n itemsMost) (le-leb itemsLeast n (omega arith)) (le-leb n itemsMost (a .few)) in
+    let large : tooLarge f g ≡ false = rw few (le-ltb (2 ^ 32 - 1) (header f .references + header g .references) (a .references-few)) in
+    let own : first (joinTests f g room) ≡ Sound = passed-first (joinTests f g room) (a .meets, (large, (le-ltb room (23 + 19 * n) (a .fits), tt))) in
+    sound-all (verdict f) (verdict g) (first (joinTests f g room)) (a .first-sound) (a .second-sound) own
 
 -- ---- writing the file
 

@@ -5,3 +5,5 @@ pub mod Joining
 pub mod Judging
 pub mod Meeting
 pub mod Once
+pub mod Together
+pub mod Trees

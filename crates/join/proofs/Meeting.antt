@@ -1,12 +1,12 @@
 -- The items of two files one after the other: they fit, and their times do not fall where the files meet. Assumes nothing.
-use Prim.Native.Nat.{ℕ, zero, suc, _-_}
-use mathlib.Core.Path.{_≡_}
+use Prim.Native.Nat.{ℕ, zero, suc, _-_, _≤_}
+use mathlib.Core.Path.{_≡_, refl}
 use mathlib.Core.Bool.{true, false, _&&_}
 use mathlib.Core.List.{List, [], _∷_, _++_}
 use native.Mathlib.Omega.{arith}
 use native.Mathlib.Numerals.{add-one}
 use lib.Dec.{ltb}
-use borrow.Author.Tests.{ltb-false, lt-ltb}
+use borrow.Author.Tests.{ltb-false, lt-ltb, le-ltb}
 use Rattle.trace.specs.Layout.{header, itemAt, itemsOf, itemsFrom, items}
 use Rattle.trace.specs.Rules.{ItemsFit, Rising}
 use Rattle.trace.specs.declared.Item.{Item}
@@ -47,3 +47,37 @@ pub rising-joined : (f g : List ℕ) → Rising 0 (items f) → Rising 0 (items 
 unfolding meetsFalling
 rising-joined f g p q e =
     rw (items-from f, items-from g) (rising-both f g (header f .items) (header g .items) (rw (items-from f) at p) (rw (items-from g) at q) e)
+
+-- ---- the other way round
+
+-- Times that do not fall from a time on do not fall from an earlier one on.
+pub rising-earlier : {from later : ℕ} → from ≤ later → (t : List Item) → Rising later t → Rising from t
+rising-earlier le [] r = tt
+rising-earlier le (i ∷ t) r = let l = r .0 in (omega arith, r .1)
+
+-- Of items one after the other whose times do not fall, the times of the first do not, nor those of the second.
+pub rising-parts : (from : ℕ) (a b : List Item) → Rising from (a ++ b) → Rising from a × Rising from b
+rising-parts from [] b r = (tt, r)
+rising-parts from (i ∷ a) b r =
+    let (p, q) = rising-parts (i .time) a b (r .1) in
+    ((r .0, p), rising-earlier (r .0) b q)
+
+-- What follows the item x is not before it.
+rising-meet : (from : ℕ) (a : List Item) (x y : Item) (b : List Item) → Rising from ((a ++ (x ∷ [])) ++ (y ∷ b)) → x .time ≤ y .time
+rising-meet from [] x y b r = r .1 .0
+rising-meet from (i ∷ a) x y b r = rising-meet (i .time) a x y b (r .1)
+
+-- Of n items of one file and m of another whose times do not fall, the second does not begin before the first ends.
+meets-both : (f g : List ℕ) (n m : ℕ) → Rising 0 (itemsFrom f 0 n ++ itemsFrom g 0 m) → ltb 0 n && (ltb 0 m && ltb (itemAt g 0 .time) (itemAt f (n - 1) .time)) ≡ false
+meets-both f g zero m r = refl
+meets-both f g (suc n) zero r = rw (some n)
+meets-both f g (suc n) (suc m) r =
+    let s : itemsFrom f 0 (suc n) ≡ itemsFrom f 0 n ++ (itemAt f n ∷ []) = rw add-one at (first-more f n) in
+    let d : suc n - 1 ≡ n = omega arith in
+    let q = rw (s, from-next g 0 m) at r in
+    rw (some n, some m, d) (le-ltb (itemAt g 0 .time) (itemAt f n .time) (rising-meet 0 (itemsFrom f 0 n) (itemAt f n) (itemAt g 0) (itemsFrom g 1 m) q))
+
+-- Where the times of both files do not fall, the second does not begin before the first ends.
+pub joined-rising : (f g : List ℕ) → Rising 0 (items f ++ items g) → meetsFalling f g ≡ false
+unfolding meetsFalling
+joined-rising f g r = meets-both f g (header f .items) (header g .items) (rw (items-from f, items-from g) at r)
