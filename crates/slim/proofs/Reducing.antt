@@ -7,11 +7,11 @@ use native.Mathlib.Omega.{arith}
 use lib.ListN.{length, replicate, length-replicate}
 use lib.Seq.{sets}
 use lib.Dec.{leb, eqb}
-use borrow.Author.Tests.{leb-true, ltb-false, eqb-true, not-false}
+use borrow.Author.Tests.{leb-true, le-leb, ltb-false, le-ltb, eqb-true, eq-eqb, not-false}
 use Rattle.limits.specs.Sizes.{between}
 use Rattle.limits.proofs.Numbers.{filterLeast, filterMost}
 use Rattle.pages.specs.Rows.{over}
-use Rattle.pages.proofs.Choice.{and-true}
+use Rattle.pages.proofs.Choice.{and-true, and-both}
 use Rattle.trace.specs.Layout.{header, items, itemsFrom, encodeHeader, encodeItems, encode}
 use Rattle.trace.specs.Refusals.{row}
 use Rattle.trace.specs.Verdict.{first, _then_}
@@ -22,15 +22,17 @@ use Rattle.trace.specs.declared.Reason.{Reason}
 use Rattle.trace.specs.declared.Refusal.{Refusal}
 use Rattle.trace.specs.declared.Verdict.{Verdict}
 use Rattle.trace.specs.declared.Verdict.the-variants.{Sound, Faulty}
-use Rattle.trace.proofs.Sound.{first-passed, then-both, elim-then}
+use Rattle.trace.proofs.Sound.{first-passed, passed-first, then-both, both-then, elim-then}
 use Rattle.trace.proofs.Checking.{sound-file}
+use Rattle.trace.proofs.Tests.{holds}
 use Rattle.trace.proofs.Items.{items-from, length-from}
 use Rattle.trace.proofs.Output.{Wrote, wrote-file}
 use Rattle.slim.specs.Keep.{reduce}
 use Rattle.slim.specs.Passes.{CanSlim}
-use Rattle.slim.specs.Reduce.{isMode, modeOf, keptOf, reducedHeader, reducedFile, reduceTests, reduceVerdict, reduceAnswer, reduceOut}
+use Rattle.slim.specs.Reduce.{isMode, modeOf, keptOf, reducedHeader, reducedFile, falls, reduceTests, reduceVerdict, reduceAnswer, reduceOut}
 use Rattle.slim.specs.declared.Mode.{Mode}
 use Rattle.slim.specs.declared.Reduced.the-variants.{Written, Refused}
+use Rattle.slim.proofs.Judging.{flag-rising}
 use Rattle.slim.proofs.Order.{reduce-length}
 
 -- ---- what a sound verdict says
@@ -61,6 +63,17 @@ sound-reducible f mode size room e =
       whole = eqb-true (header f .kind) 0 (not-false (eqb (header f .kind) 0) (search passed));
       fits = ltb-false room (length f) (search passed);
     }
+
+-- And such a reduction is not refused: its kept items' times do not fall.
+pub reducible-sound : (f : List ℕ) (mode size room : ℕ) → Reducible f mode size room → reduceVerdict f mode size room ≡ Sound
+reducible-sound f mode size room a =
+    let b : between filterLeast filterMost size ≡ true = and-both (leb filterLeast size) (leb size filterMost) (le-leb filterLeast size (a .least)) (le-leb size filterMost (a .most)) in
+    let k : eqb (header f .kind) 0 ≡ true = eq-eqb (header f .kind) 0 (a .whole) in
+    let t : falls 0 (keptOf f mode size) ≡ false = flag-rising f mode size refl (a .file-sound) in
+    reduce-then f mode size room
+    ∙ both-then (verdict f) (first (reduceTests f mode size room)) (a .file-sound)
+    (passed-first (reduceTests f mode size room)
+    (holds (isMode mode) (a .mode-is), (holds _ b, (holds _ k, (le-ltb room (length f) (a .fits), (t, tt))))))
 
 -- ---- writing the file
 
