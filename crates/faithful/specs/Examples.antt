@@ -19,7 +19,7 @@ use Rattle.slim.specs.Reduce.{isMode, modeOf, keptOf, reducedHeader, reducedFil
 use Rattle.slim.specs.declared.Reduced.{Reduced}
 use Rattle.slim.specs.declared.Reduced.the-variants as reductions
 use Rattle.join.specs.Join.{joinedKind, joinedHeader, joinedFile}
-use Rattle.lru.specs.Lru.{hit, fetch, step, _then_, replay, word, words}
+use Rattle.lru.specs.Lru.{Event, hit, fetch, step, _then_, replay, word, words}
 use Rattle.lru.specs.Tally.{isFetch, isEviction, tallied, tally, perMillion}
 use Rattle.lru.specs.Replay.{twice, badStart, replayVerdict, replayOf, summaryOf, replayAnswer, cacheAfter, eventsAfter}
 use Rattle.lru.specs.declared.Replayed.{Replayed}
@@ -113,6 +113,10 @@ fetches K f = take (3 * (summaryOf f K (empty K) 0) .fetches) (eventsAfter f K (
 abbrev pub leaves : ℕ → List ℕ → List ℕ
 leaves K f = cacheAfter f K (empty K) 0 (length places)
 
+-- When a cache of K pages that starts empty would fetch, were the replay of the file not refused.
+abbrev pub fetchedAt : ℕ → List ℕ → List ℕ
+fetchedAt K f = map (λ (e : Event). e .time) ((replay K [] (items f)) .events)
+
 -- ---- the examples
 
 abbrev pub examples : List Example
@@ -139,9 +143,11 @@ examples =
     -- "K = 3 on T: fetches at 10, 40, 60, 80; only page 2 evicted, at 80."
     ∷ (fetches 3 fileT says
     10 ∷ 1 ∷ 18446744073709551615 ∷ 40 ∷ 2 ∷ 18446744073709551615 ∷ 60 ∷ 3 ∷ 18446744073709551615 ∷ 80 ∷ 4 ∷ 2 ∷ [])
-    -- "K = 1 on T: 7 fetches, 6 evictions. On the B = 2 demand file: refused 9."
+    -- "K = 1 on T: 7 fetches, 6 evictions. On the B = 2 demand file: refused 9. (Page 3's fetch at 90 would have moved to 100.)"
     ∷ (take 4 (answer 1 fileT) says 0 ∷ 12 ∷ 7 ∷ 6 ∷ [])
     ∷ (answer 1 (demand 2 fileT) says 9 ∷ 1 ∷ 0 ∷ 0 ∷ [])
+    ∷ (fetchedAt 1 fileT says 10 ∷ 40 ∷ 50 ∷ 60 ∷ 80 ∷ 90 ∷ 110 ∷ [])
+    ∷ (fetchedAt 1 (demand 2 fileT) says 10 ∷ 40 ∷ 50 ∷ 60 ∷ 80 ∷ 100 ∷ 110 ∷ [])
     -- "T cut after time 70, each part reduced by demand with B = 2: 5 and 5 items; the join replays at K = 2 with the same five fetch lines, per million 500000."
     ∷ (reduction (reduceAnswer before 2 2 (length before)) says 0 ∷ 2 ∷ 2 ∷ 7 ∷ 5 ∷ [])
     ∷ (reduction (reduceAnswer after 2 2 (length after)) says 0 ∷ 2 ∷ 2 ∷ 5 ∷ 5 ∷ [])
@@ -164,7 +170,8 @@ examples =
     ∷ (size (demand 2 (file [])) says 23 ∷ [])
     ∷ (size (fastslim 2 (file [])) says 23 ∷ [])
     ∷ (answer 2 (file []) says 0 ∷ 0 ∷ 0 ∷ 0 ∷ 0 ∷ 0 ∷ [])
-    ∷ (fetches 2 (file []) says [])
+    ∷ (eventsAfter (file []) 2 (empty 2) 0 (5 ∷ 6 ∷ []) says 5 ∷ 6 ∷ [])
+    ∷ (cacheAfter (file []) 2 (7 ∷ 8 ∷ []) 0 0 says 7 ∷ 8 ∷ [])
     ∷ []
 
 -- Every example holds.

@@ -2,12 +2,11 @@
 use Prim.Native.Nat.{ℕ, zero, suc, _+_, _≤_, max}
 use mathlib.Core.Path.{_≡_, refl}
 use mathlib.Core.Bool.{Bool, true, false, cond, _||_}
-use mathlib.Core.List.{List, [], _∷_, _++_, map, map-append}
+use mathlib.Core.List.{List, [], _∷_, _++_, map-append}
 use native.Mathlib.Omega.{arith}
 use Rattle.pages.specs.Pages.{has}
 use Rattle.pages.proofs.Added.{has-join}
 use Rattle.trace.specs.Layout.{header}
-use Rattle.trace.specs.declared.Header.{Header}
 use Rattle.trace.proofs.Allowed.{Facts}
 use Rattle.join.specs.Join.{joinedKind, joinedHeader}
 use Rattle.join.specs.Trees.{kindOfAll, largest, total, headerOfAll}

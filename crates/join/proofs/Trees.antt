@@ -1,23 +1,18 @@
 -- Trees of joins: none is refused within the limits, and what one comes to is the same in any bracketing. Assumes nothing.
-use Prim.Native.Nat.{ℕ, _+_, _-_, _*_, _^_, _≤_}
-use mathlib.Core.Path.{_≡_, refl, sym, ap, _∙_}
+use Prim.Native.Nat.{ℕ, _+_, _*_, _≤_}
+use mathlib.Core.Path.{_≡_, refl, sym, _∙_}
 use mathlib.Core.List.{List, [], _∷_, _++_, map, map-append}
 use native.Mathlib.Omega.{arith}
-use lib.ListN.{length, length-append}
+use lib.ListN.{length}
 use Rattle.limits.proofs.Numbers.{itemsMost}
-use Rattle.pages.specs.Rows.{flat, over}
 use Rattle.pages.proofs.Rows.{flat-append, flat-one}
 use Rattle.trace.specs.Layout.{header, items}
 use Rattle.trace.specs.Rules.{Rising}
-use Rattle.trace.specs.Check.{checked}
-use Rattle.trace.specs.declared.Header.{Header}
-use Rattle.trace.specs.declared.Item.{Item}
-use Rattle.trace.specs.declared.Checked.the-variants.{Accepted}
 use Rattle.trace.proofs.Accepted.{accepted-header, accepted-long, accepted-facts, is-determined, same-file}
 use Rattle.trace.proofs.Checking.{accepted-verdict}
 use Rattle.trace.proofs.Octets.{octets-file}
 use Rattle.join.specs.Join.{joinedHeader, joinedFile, judged}
-use Rattle.join.specs.Trees.{Tree, files, joined, IsFile, AreFiles, itemsOfAll, SumsFit, Within, Joins, AllJoin, headerOfAll, IsJoinedTree, JoinsTrees, SumsAreEnough, JoinsAssociate}
+use Rattle.join.specs.Trees.{Tree, files, joined, IsFile, AreFiles, itemsOfAll, SumsFit, Joins, headerOfAll, IsJoinedTree, JoinsTrees, SumsAreEnough, JoinsAssociate}
 use Rattle.join.specs.Trees.Tree.{one, both}
 use Rattle.join.specs.declared.Judged.the-variants.{Passed}
 use Rattle.join.proofs.Joining.{joinable-passed, join-written, join-file}

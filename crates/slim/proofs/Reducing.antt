@@ -1,10 +1,10 @@
 -- `reduce`, from its verdict and from what the passes leave. Assumes nothing.
 use Prim.Native.Nat.{ℕ, _+_, _*_, _≤_}
-use mathlib.Core.Path.{_≡_, refl, sym, ap, _∙_}
-use mathlib.Core.Bool.{Bool, true, false, not}
-use mathlib.Core.List.{List, [], _∷_}
+use mathlib.Core.Path.{_≡_, refl, sym, _∙_}
+use mathlib.Core.Bool.{true, false}
+use mathlib.Core.List.{List}
 use native.Mathlib.Omega.{arith}
-use lib.ListN.{length, replicate, length-replicate}
+use lib.ListN.{length, replicate}
 use lib.Seq.{sets}
 use lib.Dec.{leb, eqb}
 use borrow.Author.Tests.{leb-true, le-leb, ltb-false, le-ltb, eqb-true, eq-eqb, not-false}
@@ -12,11 +12,10 @@ use Rattle.limits.specs.Sizes.{between}
 use Rattle.limits.proofs.Numbers.{filterLeast, filterMost}
 use Rattle.pages.specs.Rows.{over}
 use Rattle.pages.proofs.Choice.{and-true, and-both}
-use Rattle.trace.specs.Layout.{header, items, itemsFrom, encodeHeader, encodeItems, encode}
+use Rattle.trace.specs.Layout.{header, items, itemsFrom, encodeHeader, encodeItems}
 use Rattle.trace.specs.Refusals.{row}
 use Rattle.trace.specs.Verdict.{first, _then_}
 use Rattle.trace.specs.Check.{verdict}
-use Rattle.trace.specs.declared.Item.{Item}
 use Rattle.trace.specs.declared.Header.{Header}
 use Rattle.trace.specs.declared.Reason.{Reason}
 use Rattle.trace.specs.declared.Refusal.{Refusal}

@@ -1,0 +1,90 @@
+-- Demand 3 at work on trace T: its clauses are met by computation, and what it promises is held to the literal fetches and residents. Assumes nothing.
+use Prim.Native.Nat.{ℕ}
+use mathlib.Core.Path.{_≡_, refl, ap, _∙_}
+use mathlib.Core.List.{List, [], _∷_}
+use native.Mathlib.Omega.{arith}
+use lib.ListN.{take, drop, replicate}
+use Rattle.pages.specs.Rows.{flat, over}
+use Rattle.pages.specs.Pages.{has, add}
+use Rattle.trace.specs.Bytes.{number, numberAt, bytes}
+use Rattle.trace.specs.Layout.{field, encodeHeader, encodeItem, encodeItems, encode, header, item, itemsOf, items}
+use Rattle.trace.specs.Rules.{allowed}
+use Rattle.trace.specs.Verdict.{first, _then_}
+use Rattle.trace.specs.Check.{isField, itemsVerdict, verdict, answer, checked}
+use Rattle.trace.specs.Examples.{T, whole, fileT}
+use Rattle.trace.proofs.Accepted.{is-determined}
+use Rattle.trace.proofs.Octets.{octets-file}
+use Rattle.slim.specs.Epochs.{pages, cut, epochs}
+use Rattle.slim.specs.Keep.{isFirst, isLast, phase, keeps, kept, reduce}
+use Rattle.slim.specs.Reduce.{isMode, modeOf, keptOf, reducedHeader, reducedFile}
+use Rattle.join.specs.Join.{joinedKind, joinedHeader, joinedFile}
+use Rattle.join.specs.Trees.{files, joined}
+use Rattle.lru.specs.Replay.{cacheAfter, eventsAfter}
+use Rattle.faithful.specs.Demand3.{IsRecording, IsCut, short, IsJoinOf, IsCache, Faithful}
+use Rattle.faithful.specs.Corollaries.{ReplaysLike}
+use Rattle.faithful.specs.AtWork.{three, leftFirst, rightFirst, start, places, fetches-of-T, residents-of-T}
+use Rattle.faithful.proofs.Files.{demand-3}
+use Rattle.faithful.proofs.Corollaries.{any-bracketing, like-the-whole-file}
+
+-- ---- the clauses
+
+-- T is what its own file says, so it keeps the rules.
+recording : IsRecording T
+unfolding checked answer verdict first _then_ itemsVerdict isField allowed encode encodeHeader encodeItems encodeItem field bytes header items itemsOf item numberAt number
+recording =
+    let a = is-determined fileT (whole 12) (octets-file (whole 12) T) refl .keeps-rules in
+    record { items-fit = a .items-fit; rising = a .rising }
+
+cut-in-three : IsCut T three
+unfolding checked answer verdict first _then_ itemsVerdict isField allowed isMode flat encode encodeHeader encodeItems encodeItem field bytes header items itemsOf item numberAt number
+cut-in-three = record {
+  pieces = (
+    record { is-file = record { bytes = octets-file (whole 5) (take 5 T); accepted = refl }; whole = refl; either-mode = refl; least = omega arith; most = omega arith },
+    (
+      record { is-file = record { bytes = octets-file (whole 3) (take 3 (drop 5 T)); accepted = refl }; whole = refl; either-mode = refl; least = omega arith; most = omega arith },
+      (
+        record { is-file = record { bytes = octets-file (whole 4) (drop 8 T); accepted = refl }; whole = refl; either-mode = refl; least = omega arith; most = omega arith },
+        tt,
+      ),
+    ),
+  );
+  consecutive = refl;
+}
+
+joined-in-order : IsJoinOf three leftFirst
+unfolding files joined short joinedFile joinedHeader joinedKind reducedFile reducedHeader keptOf modeOf reduce epochs cut kept keeps phase isFirst isLast pages has add flat
+    encode encodeHeader encodeItems encodeItem field bytes header items itemsOf item numberAt number
+joined-in-order = record { in-order = refl; within = omega arith }
+
+cache-of-three : IsCache three 3 start 3
+unfolding has
+cache-of-three = record { least = omega arith; most = omega arith; filters = omega arith; places = omega arith; fits = omega arith; distinct = (refl, (refl, (refl, tt))); free = refl }
+
+-- ---- what is promised
+
+-- From that start, with room for the join alone, none of the three reductions and neither join is refused, and the join replays as T.
+pub at-work : Faithful T three leftFirst 3 start 3 places
+unfolding joined short joinedFile joinedHeader joinedKind reducedFile reducedHeader keptOf modeOf reduce epochs cut kept keeps phase isFirst isLast pages has add flat
+    encode encodeHeader encodeItems encodeItem field bytes header items itemsOf item numberAt number
+at-work = demand-3 T recording three cut-in-three leftFirst joined-in-order 3 start 3 cache-of-three places (omega arith)
+
+-- So it leaves T's three fetches in the events buffer, and T's residents in the cache buffer.
+pub fetches-left : eventsAfter (joined leftFirst) 3 start 3 places ≡ 40 ∷ 2 ∷ 4 ∷ 60 ∷ 3 ∷ 9 ∷ 80 ∷ 4 ∷ 2 ∷ replicate 21 7
+unfolding over
+fetches-left = at-work .replays .fetches ∙ ap (λ (w : List ℕ). over w places) fetches-of-T
+
+pub residents-left : cacheAfter (joined leftFirst) 3 start 3 30 ≡ 1 ∷ 3 ∷ 4 ∷ 0 ∷ []
+unfolding over
+residents-left = at-work .replays .residents ∙ ap (λ (w : List ℕ). over w start) residents-of-T
+
+-- In the other bracketing the joins are within the limits too, and come to the same file.
+pub other-bracketing : IsJoinOf three rightFirst × (joined leftFirst ≡ joined rightFirst)
+unfolding files
+other-bracketing = any-bracketing T recording three cut-in-three leftFirst rightFirst joined-in-order refl
+
+-- T is itself a file, so the join replays like that file, in buffers with room for it.
+pub like-T : ReplaysLike (joined rightFirst) fileT 3 start 3 (replicate 36 7)
+unfolding files checked answer verdict first _then_ itemsVerdict isField allowed encode encodeHeader encodeItems encodeItem field bytes header items itemsOf item numberAt number
+like-T =
+    like-the-whole-file fileT (record { bytes = octets-file (whole 12) T; accepted = refl }) refl three cut-in-three rightFirst refl 3 start 3 cache-of-three (replicate 36 7)
+    (omega arith) .2

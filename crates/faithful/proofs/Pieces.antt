@@ -1,0 +1,121 @@
+-- The files of a recording, and the files that they are reduced to. Assumes nothing.
+use Prim.Native.Nat.{ℕ, _≤_}
+use mathlib.Core.Path.{_≡_, refl, sym}
+use mathlib.Core.List.{List, [], _∷_, map}
+use native.Mathlib.Omega.{arith}
+use lib.ListN.{length, length-append}
+use Rattle.pages.specs.Rows.{flat}
+use Rattle.trace.specs.Layout.{header, items}
+use Rattle.trace.specs.Rules.{Rising}
+use Rattle.trace.specs.declared.Verdict.the-variants.{Sound}
+use Rattle.trace.proofs.Accepted.{accepted-header, accepted-count, accepted-facts}
+use Rattle.trace.proofs.Checking.{accepted-verdict}
+use Rattle.trace.proofs.Octets.{octets-file}
+use Rattle.slim.specs.Keep.{reduce}
+use Rattle.slim.specs.Reduce.{modeOf, keptOf, reducedHeader, reducedFile, reduceVerdict}
+use Rattle.slim.specs.English.{Sub}
+use Rattle.slim.specs.English.Sub.{none}
+use Rattle.slim.proofs.Kept.{sub-append, kept-in-order}
+use Rattle.slim.proofs.Order.{sub-rising, reduce-length}
+use Rattle.slim.proofs.Reducing.{reducible-sound, reduce-written, reduce-file}
+use Rattle.slim.proofs.Accepted.{writes-reduced}
+use Rattle.join.specs.Trees.{IsFile, AreFiles, itemsOfAll, largest, total, headerOfAll}
+use Rattle.faithful.specs.Parts.{Part, whole, reduced, Sizes}
+use Rattle.faithful.specs.Demand3.{Piece, IsPiece, ArePieces, short, AllAtMost, Reduces, AllReduce}
+
+-- What a piece is on items.
+pub part : Piece → Part
+part p = record { mode = modeOf (p .mode); size = p .size; items = items (p .file) }
+
+-- ---- one piece
+
+module _ (p : Piece) (a : IsPiece p) where
+  -- With room for the file its reduction is not refused.
+  reducible : (room : ℕ) → length (p .file) ≤ room → reduceVerdict (p .file) (p .mode) (p .size) room ≡ Sound
+  reducible room fits = reducible-sound (p .file) (p .mode) (p .size) room (record {
+    file-sound = accepted-verdict (p .file) (header (p .file)) (a .is-file .accepted);
+    mode-is = a .either-mode;
+    least = a .least;
+    most = a .most;
+    whole = a .whole;
+    fits = fits;
+  })
+
+  reduces : Reduces p
+  unfolding short
+  reduces = record {
+    answers = λ out fits. sym (reduce-written (p .file) (p .mode) (p .size) out refl (reducible (length out) fits) refl);
+    writes = λ out fits. sym (reduce-file (p .file) (p .mode) (p .size) out refl (reducible (length out) fits) refl);
+  }
+
+  -- What is written is a file, with the reduced header and the items that are kept.
+  short-is : IsFile (short p) × (header (short p) ≡ reducedHeader (p .file) (p .mode) (p .size)) × (items (short p) ≡ reduce (modeOf (p .mode)) (p .size) (items (p .file)))
+  unfolding short reducedFile
+  short-is =
+      let w = writes-reduced (p .file) (p .mode) (p .size) (length (p .file)) (a .is-file .bytes) (reducible (length (p .file)) (omega arith)) in
+      let h = accepted-header (short p) (reducedHeader (p .file) (p .mode) (p .size)) (w .accepted) in
+      (record { bytes = octets-file (reducedHeader (p .file) (p .mode) (p .size)) _; accepted = rw h (w .accepted) }, h, w .items-are)
+
+-- ---- all of them
+
+pub all-reduce : (ps : List Piece) → ArePieces ps → AllReduce ps
+all-reduce [] a = tt
+all-reduce (p ∷ ps) a = (reduces p (a .0), all-reduce ps (a .1))
+
+pub short-files : (ps : List Piece) → ArePieces ps → AreFiles (map short ps)
+short-files [] a = tt
+short-files (p ∷ ps) a = (short-is p (a .0) .0, short-files ps (a .1))
+
+-- Their items are the parts reduced, one after the other.
+pub short-items : (ps : List Piece) → ArePieces ps → itemsOfAll (map short ps) ≡ reduced (map part ps)
+unfolding flat part reduced
+short-items [] a = refl
+short-items (p ∷ ps) a = rw (short-is p (a .0) .2, short-items ps (a .1))
+
+-- The items of the files are the parts, one after the other.
+pub piece-items : (ps : List Piece) → whole (map part ps) ≡ flat (map (λ (p : Piece). items (p .file)) ps)
+unfolding flat part whole
+piece-items [] = refl
+piece-items (p ∷ ps) = rw (piece-items ps)
+
+-- Parts reduced are the parts without some of their items,
+reduced-in-order : (ps : List Part) → Sub (reduced ps) (whole ps)
+unfolding flat reduced whole
+reduced-in-order [] = none
+reduced-in-order (p ∷ ps) = sub-append (kept-in-order (p .mode) (p .size) (p .items)) (reduced-in-order ps)
+
+-- so their times do not fall.
+pub reduced-rising : (ps : List Part) → Rising 0 (whole ps) → Rising 0 (reduced ps)
+reduced-rising ps r = sub-rising (reduced-in-order ps) 0 r
+
+-- ---- filters
+
+pub piece-sizes : (K : ℕ) (ps : List Piece) → ArePieces ps → AllAtMost K ps → Sizes K (map part ps)
+unfolding part
+piece-sizes K [] a l = tt
+piece-sizes K (p ∷ ps) a l = (a .0 .least, l .0, piece-sizes K ps (a .1) (l .1))
+
+-- The largest filter of the reduced files is at most K.
+pub filter-at-most : (K : ℕ) (ps : List Piece) → ArePieces ps → AllAtMost K ps → headerOfAll (map short ps) .filter ≤ K
+unfolding headerOfAll largest reducedHeader
+filter-at-most K [] a l = omega arith
+filter-at-most K (p ∷ ps) a l = rw (short-is p (a .0) .1) (omega (arith, l .0, filter-at-most K ps (a .1) (l .1)))
+
+-- ---- counts
+
+-- The reduced files together have no more items than the files have,
+pub items-at-most : (ps : List Piece) → ArePieces ps → headerOfAll (map short ps) .items ≤ length (whole (map part ps))
+unfolding headerOfAll total reducedHeader keptOf flat part whole
+items-at-most [] a = omega arith
+items-at-most (p ∷ ps) a =
+    rw (short-is p (a .0) .1, length-append) (omega (arith, reduce-length (modeOf (p .mode)) (p .size) (items (p .file)), items-at-most ps (a .1)))
+
+-- and as many references.
+pub references-are : (ps : List Piece) → ArePieces ps → headerOfAll (map short ps) .references ≡ length (whole (map part ps))
+unfolding headerOfAll total reducedHeader flat part whole
+references-are [] a = refl
+references-are (p ∷ ps) a =
+    let f = p .file in
+    let e = a .0 .is-file .accepted in
+    let (_, same) = accepted-facts f (header f) e .whole (a .0 .whole) in
+    rw (short-is p (a .0) .1, length-append) (omega (arith, accepted-count f (header f) e, references-are ps (a .1)))
