@@ -23,7 +23,7 @@ pub enum Difference {
         answered: Header,
         expected: Header,
     },
-    /// The first fetch that differs, or the place of one too many or few.
+    /// The first fetch that is another or is missing.
     Fetch {
         number: usize,
     },
@@ -32,7 +32,8 @@ pub enum Difference {
         answered: Summary,
         expected: Summary,
     },
-    /// Places beyond what a replay writes do not have what they had.
+    /// Places were written that should keep what they had: a fetch too many,
+    /// for one.
     Rest,
 }
 
@@ -41,7 +42,7 @@ const UNWRITTEN: u64 = 0x0123_4567_89AB_CDEF;
 
 const NUMBERS_PER_EVENT: usize = 3;
 
-/// Both parts of the check. Answers the joined file's items and the tally.
+/// Both parts of the check. Answers what the replay of the join counted.
 pub fn check(
     library: &dyn Library,
     recording: &Recording,
@@ -127,9 +128,9 @@ pub fn replays_as_recorded(
 fn same_fetches(events: &[u64], expected: &Run) -> Result<(), Difference> {
     let written = expected.events.len().min(events.len());
     let (fetches, rest) = events.split_at(written);
-    let pairs = fetches.iter().zip(&expected.events);
-    let differs = pairs.clone().position(|(one, two)| one != two);
-    // Fetches that the joined file has no items for are missing.
+    let mut pairs = fetches.iter().zip(&expected.events);
+    let differs = pairs.position(|(one, two)| one != two);
+    // There is no room for more fetches than the joined file has items.
     let missing = (expected.events.len() > written).then_some(written);
     if let Some(place) = differs.or(missing) {
         let number = place / NUMBERS_PER_EVENT;

@@ -85,9 +85,7 @@ mod tests {
     use super::*;
 
     fn left_comb(files: usize) -> Tree {
-        (1..files)
-            .map(Tree::File)
-            .fold(Tree::File(0), |tree, file| Tree::join(tree, file))
+        (1..files).map(Tree::File).fold(Tree::File(0), Tree::join)
     }
 
     #[test]
