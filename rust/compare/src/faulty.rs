@@ -22,6 +22,9 @@ pub enum Fault {
     NamesTheFirstTraceAlways,
     JoinLooksAtCountsFirst,
     JoinTakesTheSmallerFilter,
+    JoinPutsTheSecondFirst,
+    JoinDropsTheSecondsFirst,
+    JoinDropsTheFirstsLast,
     ReplayTouchesNothing,
     ReplayInventsAfterTheFirst,
     CountsOneFetchTooMany,
@@ -33,7 +36,7 @@ pub enum Fault {
 
 use Fault::*;
 
-pub const ALL: [Fault; 21] = [
+pub const ALL: [Fault; 24] = [
     RefusesEveryReduction,
     WritesAnEmptyTrace,
     CopiesItsInput,
@@ -48,6 +51,9 @@ pub const ALL: [Fault; 21] = [
     NamesTheFirstTraceAlways,
     JoinLooksAtCountsFirst,
     JoinTakesTheSmallerFilter,
+    JoinPutsTheSecondFirst,
+    JoinDropsTheSecondsFirst,
+    JoinDropsTheFirstsLast,
     ReplayTouchesNothing,
     ReplayInventsAfterTheFirst,
     CountsOneFetchTooMany,
@@ -93,6 +99,7 @@ impl Library for Faulty {
     }
 
     fn join(&self, first: &[u8], second: &[u8], out: &mut [u8]) -> Result<Header, Refusal> {
+        let before = out.to_vec();
         let answer = Reference.join(first, second, out);
         match (self.0, answer) {
             (NamesTheFirstTraceAlways, Err(refusal)) => Err(Refusal {
@@ -113,7 +120,8 @@ impl Library for Faulty {
                 put_header(out, &header);
                 Ok(header)
             }
-            (_, answer) => answer,
+            (_, Ok(header)) => Ok(self.spoil_join([first, second], header, &before, out)),
+            (_, refused) => refused,
         }
     }
 
@@ -196,6 +204,35 @@ impl Faulty {
             }
             _ => kept,
         }
+    }
+
+    /// Writes a joined file once more, with other items or in another order.
+    fn spoil_join(
+        &self,
+        files: [&[u8]; 2],
+        header: Header,
+        before: &[u8],
+        out: &mut [u8],
+    ) -> Header {
+        let (first, second) = (items(files[0]), items(files[1]));
+        let end = first.len();
+        // A file that had references without items would be refused at once.
+        let can_drop = !first.is_empty() && !second.is_empty();
+        let mut joined = [first, second].concat();
+        match self.0 {
+            JoinPutsTheSecondFirst => joined.rotate_left(end),
+            JoinDropsTheSecondsFirst if can_drop => drop(joined.remove(end)),
+            JoinDropsTheFirstsLast if can_drop => drop(joined.remove(end - 1)),
+            _ => return header,
+        }
+        let header = Header {
+            items: joined.len() as u64,
+            ..header
+        };
+        let bytes = encode(&header, &joined);
+        out.copy_from_slice(before);
+        out[..bytes.len()].copy_from_slice(&bytes);
+        header
     }
 
     fn spoil_replay(

@@ -4,13 +4,17 @@
 pub mod calls;
 pub mod case;
 pub mod damage;
+pub mod faithful;
 pub mod faulty;
 pub mod files;
 mod frame;
 pub mod judge;
 pub mod random;
+pub mod recordings;
 pub mod report;
+pub mod starts;
 pub mod traces;
+pub mod trees;
 
 pub use case::Case;
 pub use judge::Judge;

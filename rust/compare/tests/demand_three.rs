@@ -4,10 +4,11 @@
 
 use bindings::Proved;
 use compare::report::say;
+use compare::starts::Start;
 use compare::{Random, traces};
 use reference::Reference;
 use types::layout::{file_bytes, whole};
-use types::limits::{LARGEST_CACHE, LARGEST_FILTER};
+use types::limits::LARGEST_FILTER;
 use types::{Item, Library, Summary};
 
 const TRACES: u64 = 4_000;
@@ -42,15 +43,11 @@ fn reductions_replay_alike(name: &str, library: &dyn Library) {
         let whole = whole(&items);
         shorter += u64::from(joined.len() < whole.len());
         for _ in 0..REPLAYS_EACH {
-            let size = cache_size(&mut random, largest);
-            let start = start(&mut random, &pool, size);
-            let one = replay(library, &whole, size, &start);
-            let two = replay(library, &joined, size, &start);
-            same(
-                &one,
-                &two,
-                &format!("seed {seed} trace {number} size {size}"),
-            );
+            let start = Start::random(&mut random, largest, &pool);
+            let one = replay(library, &whole, &start);
+            let two = replay(library, &joined, &start);
+            let place = format!("seed {seed} trace {number} size {}", start.size);
+            same(&one, &two, &place);
             replays += 1;
             evictions += one.summary.evictions;
         }
@@ -128,37 +125,12 @@ fn join(library: &dyn Library, first: &[u8], second: &[u8]) -> Vec<u8> {
     out
 }
 
-/// At least the largest filter, and often exactly that.
-fn cache_size(random: &mut Random, largest: u64) -> u64 {
-    let least = largest.max(1);
-    match random.below(4) {
-        0 | 1 => least,
-        2 => least + random.below(10),
-        _ => least + random.below(LARGEST_CACHE - least + 1),
-    }
-}
-
-/// Distinct pages, some of the trace and some strange to it.
-fn start(random: &mut Random, pool: &[u64], size: u64) -> Vec<u64> {
-    let mut pages: Vec<u64> = pool.to_vec();
-    pages.extend((0..20).map(|_| random.bits() >> 1));
-    pages.sort_unstable();
-    pages.dedup();
-    let count = random.index(pages.len().min(size as usize) + 1);
-    (0..count)
-        .map(|_| {
-            let place = random.index(pages.len());
-            pages.swap_remove(place)
-        })
-        .collect()
-}
-
-fn replay(library: &dyn Library, file: &[u8], size: u64, start: &[u64]) -> Replayed {
-    let mut cache = start.to_vec();
-    cache.resize(size as usize, 0);
+fn replay(library: &dyn Library, file: &[u8], start: &Start) -> Replayed {
+    let mut cache = start.pages.clone();
+    cache.resize(start.size as usize, 0);
     let mut events = vec![0; 3 * (file.len() - 23) / 19];
     let summary = library
-        .replay(file, size, &mut cache, start.len(), &mut events)
+        .replay(file, start.size, &mut cache, start.pages.len(), &mut events)
         .expect("taken");
     events.truncate(3 * summary.fetches as usize);
     cache.truncate(summary.resident as usize);

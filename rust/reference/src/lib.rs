@@ -7,11 +7,13 @@ mod lru;
 mod page_map;
 mod reduce;
 mod replay;
+mod run;
 
-pub use check::check;
+pub use check::{check, items};
 pub use join::join;
 pub use reduce::reduce;
 pub use replay::replay;
+pub use run::{Run, run};
 pub use types::{Header, Library, Refusal, Summary};
 
 /// The functions of this package behind the shared trait.

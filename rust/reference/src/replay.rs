@@ -1,13 +1,11 @@
 //! The LRU replay.
 
 use crate::check::{check, items};
-use crate::lru::{Lru, Touch};
+use crate::lru::Lru;
 use crate::page_map::PageSet;
+use crate::run::{NUMBERS_PER_EVENT, step_over};
 use types::limits::{LARGEST_CACHE, RESERVED_PAGE};
 use types::{Refusal, Summary};
-
-/// Time, page, evicted page.
-const NUMBERS_PER_EVENT: usize = 3;
 
 /// Replays a trace file with a cache of `size` pages that starts as the first
 /// `resident` places of `cache`.
@@ -18,30 +16,28 @@ pub fn replay(
     resident: usize,
     events: &mut [u64],
 ) -> Result<Summary, (Refusal, u64)> {
-    let count = admit(file, size, cache, resident, events.len())
+    admit(file, size, cache, resident, events.len())
         .map_err(|refusal| (refusal, resident as u64))?;
     let mut list = Lru::start(size as usize, &cache[..resident]);
-    let (fetches, evictions) = run(file, &mut list, events);
+    let mut places = events.chunks_exact_mut(NUMBERS_PER_EVENT);
+    let summary = step_over(&mut list, items(file), |event| {
+        let place = places.next().expect("room for each fetch");
+        place.copy_from_slice(&event);
+    });
     for (place, page) in cache.iter_mut().zip(list.pages()) {
         *place = page;
     }
-    Ok(Summary {
-        items: count,
-        fetches,
-        evictions,
-        resident: list.len() as u64,
-        permillion: (fetches * 1_000_000).checked_div(count).unwrap_or(0),
-    })
+    Ok(summary)
 }
 
-/// The refusals of a replay in their order; answers the number of items.
+/// The refusals of a replay in their order.
 fn admit(
     file: &[u8],
     size: u64,
     cache: &[u64],
     resident: usize,
     room: usize,
-) -> Result<u64, Refusal> {
+) -> Result<(), Refusal> {
     let header = check(file)?;
     if !(1..=LARGEST_CACHE).contains(&size) {
         return Err(Refusal::new(7));
@@ -55,7 +51,7 @@ fn admit(
     if room < NUMBERS_PER_EVENT * header.items as usize {
         return Err(Refusal::new(11));
     }
-    Ok(header.items)
+    Ok(())
 }
 
 /// Whether the first places of the lent buffer can be a starting cache.
@@ -67,19 +63,4 @@ fn can_start(size: usize, cache: &[u64], resident: usize) -> bool {
     cache[..resident]
         .iter()
         .all(|page| *page != RESERVED_PAGE && seen.insert(*page))
-}
-
-/// Moves the list over all items; answers the fetches and evictions.
-fn run(file: &[u8], list: &mut Lru, events: &mut [u64]) -> (u64, u64) {
-    let (mut fetches, mut evictions) = (0, 0);
-    let mut places = events.chunks_exact_mut(NUMBERS_PER_EVENT);
-    for item in items(file) {
-        if let Touch::Fetch { evicted } = list.touch(item.page) {
-            let place = places.next().expect("room for each fetch");
-            place.copy_from_slice(&[item.time, item.page, evicted.unwrap_or(RESERVED_PAGE)]);
-            fetches += 1;
-            evictions += u64::from(evicted.is_some());
-        }
-    }
-    (fetches, evictions)
 }

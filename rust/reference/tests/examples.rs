@@ -1,6 +1,6 @@
 //! The paper's examples on trace T.
 
-use reference::{Header, Refusal, Summary, check, join, reduce, replay};
+use reference::{Header, Refusal, Summary, check, join, reduce, replay, run};
 use types::Item;
 use types::layout::{encode, whole};
 
@@ -82,6 +82,19 @@ fn t_whole_with_cache_size_2() {
     };
     assert_eq!(summary, expected);
     assert_eq!(pages, [1, 3]);
+}
+
+/// The items alone do what their file does, and from a start as well.
+#[test]
+fn t_without_a_file() {
+    let (events, summary, pages) = replayed(&whole(&t()), 2);
+    let of_items = run(t(), 2, &[]);
+    assert_eq!(of_items.events, events.concat());
+    assert_eq!((of_items.summary, of_items.pages), (summary, pages));
+
+    let from_a_start = run(trace(&[(3, 5), (4, 6)]), 2, &[3, 9]);
+    assert_eq!(from_a_start.events, [6, 4, 9]);
+    assert_eq!(from_a_start.pages, [4, 3]);
 }
 
 #[test]

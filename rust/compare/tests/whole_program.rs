@@ -1,0 +1,89 @@
+//! The program `whole`, on the paper's trace T in one file and in several.
+
+use std::env;
+use std::fs;
+use std::path::PathBuf;
+use std::process::{Command, Output, id};
+use types::layout::{encode, whole};
+use types::{Header, Item};
+
+const LINES: &str = "\
+10 1 -
+40 2 -
+60 3 2
+80 4 1
+110 1 4
+items 12 fetches 5 evictions 3 permillion 416666
+pages 1 3
+";
+
+fn t() -> Vec<Item> {
+    let pages = [1, 1, 1, 2, 1, 3, 3, 4, 3, 3, 1, 1];
+    let times = (1..).map(|number| 10 * number);
+    let items = pages.into_iter().zip(times);
+    items.map(|(page, time)| Item { page, time }).collect()
+}
+
+/// Runs `whole` with a cache size and files that hold these bytes.
+fn run(name: &str, cache: &str, files: &[Vec<u8>]) -> Output {
+    let folder = env::temp_dir().join(format!("whole-{name}-{}", id()));
+    fs::create_dir_all(&folder).expect("a folder");
+    let write = |(number, bytes): (usize, &Vec<u8>)| {
+        let path = folder.join(number.to_string());
+        fs::write(&path, bytes).expect("written");
+        path
+    };
+    let paths: Vec<PathBuf> = files.iter().enumerate().map(write).collect();
+    let mut command = Command::new(env!("CARGO_BIN_EXE_whole"));
+    let output = command.arg(cache).args(paths).output().expect("run");
+    fs::remove_dir_all(folder).expect("removed");
+    output
+}
+
+#[test]
+fn t_in_one_file_and_in_several() {
+    let t = t();
+    let files = [
+        vec![whole(&t)],
+        vec![whole(&t[..7]), whole(&t[7..])],
+        vec![whole(&[]), whole(&t[..1]), whole(&[]), whole(&t[1..])],
+    ];
+    for files in files {
+        let output = run("t", "2", &files);
+        assert!(output.status.success());
+        assert_eq!(String::from_utf8_lossy(&output.stdout), LINES);
+    }
+}
+
+#[test]
+fn an_empty_recording() {
+    let output = run("empty", "7", &[whole(&[])]);
+    let lines = "items 0 fetches 0 evictions 0 permillion 0\npages\n";
+    assert_eq!(String::from_utf8_lossy(&output.stdout), lines);
+}
+
+#[test]
+fn what_is_no_recording_fails() {
+    let t = t();
+    let header = Header {
+        kind: 1,
+        filter: 2,
+        references: 12,
+        items: 12,
+    };
+    let in_order = [whole(&t[..7]), whole(&t[7..])];
+    let out_of_order = [whole(&t[7..]), whole(&t[..7])];
+    for (cache, files) in [
+        ("0", &in_order[..]),
+        ("4097", &in_order),
+        ("two", &in_order),
+        ("2", &[]),
+        ("2", &out_of_order),
+        ("2", &[encode(&header, &t)]),
+        ("2", &[vec![1, 2, 3]]),
+    ] {
+        let output = run("wrong", cache, files);
+        assert!(!output.status.success() && output.stdout.is_empty());
+        assert!(output.stderr.starts_with(b"whole: "));
+    }
+}

@@ -1,0 +1,55 @@
+//! LRU over a row of items. Nothing here knows of files, so the row may be
+//! longer than any file: a whole recording.
+
+use crate::lru::{Lru, Touch};
+use types::limits::RESERVED_PAGE;
+use types::{Item, Summary};
+
+/// Time, page, evicted page.
+pub(crate) const NUMBERS_PER_EVENT: usize = 3;
+
+/// What LRU did with a row of items, and the pages it left, most recently
+/// used first.
+#[derive(Clone, Debug, PartialEq, Eq)]
+pub struct Run {
+    pub events: Vec<u64>,
+    pub pages: Vec<u64>,
+    pub summary: Summary,
+}
+
+/// Runs a cache of `size` pages, not 0, over the items. It starts with these
+/// pages, which are distinct and no more than it has room for.
+pub fn run(items: impl IntoIterator<Item = Item>, size: usize, start: &[u64]) -> Run {
+    let mut list = Lru::start(size, start);
+    let mut events = Vec::new();
+    let summary = step_over(&mut list, items, |event| events.extend_from_slice(&event));
+    Run {
+        events,
+        pages: list.pages().collect(),
+        summary,
+    }
+}
+
+/// Moves the list over all items and tells of each fetch.
+pub(crate) fn step_over(
+    list: &mut Lru,
+    items: impl IntoIterator<Item = Item>,
+    mut fetched: impl FnMut([u64; NUMBERS_PER_EVENT]),
+) -> Summary {
+    let (mut count, mut fetches, mut evictions) = (0, 0, 0);
+    for item in items {
+        count += 1;
+        if let Touch::Fetch { evicted } = list.touch(item.page) {
+            fetched([item.time, item.page, evicted.unwrap_or(RESERVED_PAGE)]);
+            fetches += 1;
+            evictions += u64::from(evicted.is_some());
+        }
+    }
+    Summary {
+        items: count,
+        fetches,
+        evictions,
+        resident: list.len() as u64,
+        permillion: (fetches * 1_000_000).checked_div(count).unwrap_or(0),
+    }
+}
