@@ -1,7 +1,7 @@
 -- A page more, at the end of a list of distinct pages. Assumes nothing.
 use Prim.Native.Nat.{ℕ, suc, _≤_}
-use mathlib.Core.Path.{_≡_, refl, sym, _∙_}
-use mathlib.Core.Bool.{true, false, _||_, or-assoc, or-false}
+use mathlib.Core.Path.{_≡_, refl, sym, ap, _∙_}
+use mathlib.Core.Bool.{Bool, true, false, cond, _||_, or-assoc, or-false}
 use mathlib.Core.List.{List, [], _∷_, _++_, append-nil}
 use native.Mathlib.Omega.{arith}
 use lib.ListN.{length, length-append}
@@ -19,7 +19,7 @@ module _ (p : ℕ) (l : List ℕ) where
   -- A page that is there already changes nothing.
   pub add-old : has p l ≡ true → add p l ≡ l
   unfolding add
-  add-old h = rw h
+  add-old h = ap (λ (b : Bool). cond b l (l ++ (p ∷ []))) h
 
   -- A new one goes to the end.
   pub add-new : has p l ≡ false → add p l ≡ l ++ (p ∷ [])
