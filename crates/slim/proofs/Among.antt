@@ -1,6 +1,6 @@
 -- An item is among those that are kept of a trace exactly if it is kept in its epoch. Assumes nothing.
 use Prim.Native.Nat.{ℕ}
-use mathlib.Core.Path.{_≡_, refl, sym, ap, _∙_}
+use mathlib.Core.Path.{_≡_, refl, sym, ap}
 use mathlib.Core.Bool.{Bool, true, false}
 use mathlib.Core.List.{List, [], _∷_, _++_, map, map-append, List·Memᴰ·head, List·Memᴰ·tail, List·Memᴰ·not-nil, List·Memᴰ·append-cases, Memᴰ·append-left, Memᴰ·append-right}
 use mathlib.Core.Logic.{⊎-elim}
@@ -21,13 +21,13 @@ module _ (m : Mode) (i : Item) where
   abbrev Stands : List ℕ → List Item → Type 0
   Stands seen e = (before : List Item) × (after : List Item) × (e ≡ before ++ i ∷ after) × (keeps m (touched seen before) i after ≡ true)
 
-  -- An item that is put in front if a test passes is there, or the item was among the others.
+  -- Where j was put in front of a row if a test passes, an item is j and the test passes, or the row had it.
   among-if : {C : Type 0} (b : Bool) {j : Item} {u : List Item} → Among i (consIf b j u) → (b ≡ true → i ≡ j → C) → (Among i u → C) → C
   among-if true (List·Memᴰ·head e) f g = f refl e
   among-if true (List·Memᴰ·tail a) f g = g a
   among-if false a f g = g a
 
-  -- What is kept of an epoch is kept there.
+  -- An item of what is kept of an epoch stands in the epoch, and is kept there.
   kept-stands : (seen : List ℕ) (e : List Item) → Among i (kept m seen e) → Stands seen e
   unfolding touched kept
   kept-stands seen [] a = absurd (List·Memᴰ·not-nil a)
@@ -36,7 +36,7 @@ module _ (m : Mode) (i : Item) where
       (λ k s. ([], e, ap (λ (x : Item). x ∷ e) (sym s), rw s k))
       (λ b. let r = kept-stands (add (j .page) seen) e b in (j ∷ r .0, r .1, ap (_∷_ j) (r .2), r .3))
 
-  -- What is kept of epochs is kept in one of them.
+  -- An item of what is kept of some epochs stands in one of them, and is kept there.
   among-kept : (es : List (List Item)) → Among i (flat (map (kept m []) es)) → IsKept m es i
   unfolding flat
   among-kept [] a = absurd (List·Memᴰ·not-nil a)

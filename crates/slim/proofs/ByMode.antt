@@ -24,7 +24,7 @@ demand-sentence before after i = first-or-last before after i
 
 -- ---- phases
 
--- Whatever stands after an item in its epoch is the rest of a phase and what follows it.
+-- Whatever stands after `before` in an epoch is the rest of a phase and what follows it.
 pub phase-ends : PhaseEnds
 phase-ends before [] = ([], [], refl, record { within = tt; ends = tt })
 phase-ends before (i ∷ t) =
