@@ -1,13 +1,13 @@
 -- A page more, at the end of a list of distinct pages. Assumes nothing.
 use Prim.Native.Nat.{ℕ, suc, _≤_}
-use mathlib.Core.Path.{_≡_, refl, sym, _∙_}
-use mathlib.Core.Bool.{true, false, _||_, or-assoc, or-false}
+use mathlib.Core.Path.{_≡_, refl, sym, ap, _∙_}
+use mathlib.Core.Bool.{Bool, true, false, cond, _||_, or-assoc, or-false}
 use mathlib.Core.List.{List, [], _∷_, _++_, append-nil}
 use native.Mathlib.Omega.{arith}
 use lib.ListN.{length, length-append}
 use lib.Dec.{eqb}
-use Rattle.pages.specs.Pages.{has, add}
-use Rattle.pages.proofs.Choice.{split, same}
+use Rattle.pages.specs.Pages.{has, add, Distinct}
+use Rattle.pages.proofs.Choice.{split, same, eqb-sym, or-false as neither}
 
 -- A page is in two lists one after the other if it is in one of them.
 pub has-join : (x : ℕ) (a b : List ℕ) → has x (a ++ b) ≡ has x a || has x b
@@ -19,7 +19,7 @@ module _ (p : ℕ) (l : List ℕ) where
   -- A page that is there already changes nothing.
   pub add-old : has p l ≡ true → add p l ≡ l
   unfolding add
-  add-old h = rw h
+  add-old h = ap (λ (b : Bool). cond b l (l ++ (p ∷ []))) h
 
   -- A new one goes to the end.
   pub add-new : has p l ≡ false → add p l ≡ l ++ (p ∷ [])
@@ -45,3 +45,17 @@ module _ (p : ℕ) (l : List ℕ) where
 -- A list with a page more begins with the list.
 pub add-begins : (p : ℕ) (l : List ℕ) → (u : List ℕ) × (add p l ≡ l ++ u)
 add-begins p l = split (has p l) (λ h. ([], add-old p l h ∙ sym (append-nil l))) (λ h. (p ∷ [], add-new p l h))
+
+-- ---- no page twice
+
+-- A new page at the end of a list of distinct pages.
+distinct-new : (p : ℕ) (l : List ℕ) → has p l ≡ false → Distinct l → Distinct (l ++ (p ∷ []))
+unfolding has
+distinct-new p [] h d = (refl, tt)
+distinct-new p (q ∷ l) h d =
+    let z = neither (eqb p q) (has p l) h in
+    (rw (has-join q l (p ∷ []), d .0, eqb-sym q p, z .0), distinct-new p l (z .1) (d .1))
+
+-- Distinct pages are distinct with a page more.
+pub distinct-add : (p : ℕ) (l : List ℕ) → Distinct l → Distinct (add p l)
+distinct-add p l d = split (has p l) (λ h. rw (add-old p l h) d) (λ h. rw (add-new p l h) (distinct-new p l h d))
