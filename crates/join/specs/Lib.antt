@@ -1,3 +1,4 @@
 pub mod Join
 pub mod Promises
 pub mod Trees
+pub mod Examples

@@ -6,6 +6,7 @@ use super::noise;
 use super::tell;
 use super::tell::Tally;
 use join::Joined;
+use limits::Cache;
 use lru::Replayed;
 use slim::Reduced;
 use trace::Checked;
@@ -137,7 +138,7 @@ pub fn replay(
     events: &[u64],
 ) -> Tally {
     let bytes = f.bytes;
-    let mut cache = [0u64; 4097];
+    let mut cache = [0u64; Cache::PLACES + 1];
     let mut out = [0u64; 64];
     let got = replay_into(build::shown(&bytes, f.len), s, start, &mut cache, &mut out);
     let one = noise::holds_numbers(&cache, s.places, pages, start);

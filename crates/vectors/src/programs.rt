@@ -60,7 +60,7 @@ fn compared(t: Tally, call: &[u8], name: &[u8], m: usize, out: &[u8], want: &[u8
 
 // A line `l`: how many settings bytes, six of them, the length or 0; the name, a bar, and the output.
 pub fn replayed(t: Tally, name: &[u8], f: File, n: [u64; 48]) -> Tally {
-    let mut input = [0u8; 32769];
+    let mut input = [0u8; Input::PLACES + 1];
     let len = filled(&mut input, n, f);
     let mut out = [0u8; ROOM];
     noise::fill_bytes(&mut out);
@@ -78,7 +78,7 @@ pub fn replayed(t: Tally, name: &[u8], f: File, n: [u64; 48]) -> Tally {
 }
 
 fn reduced(t: Tally, name: &[u8], f: File, n: [u64; 48], want: &[u8]) -> Tally {
-    let mut input = [0u8; 32769];
+    let mut input = [0u8; Input::PLACES + 1];
     let len = filled(&mut input, n, f);
     let mut out = [0u8; Input::PLACES];
     noise::fill_bytes(&mut out);
