@@ -1,7 +1,7 @@
 -- What follows from demand 3, or fills its clauses. Assumes nothing.
 use Prim.Native.Nat.{_≤_}
 use mathlib.Core.Path.{refl, sym, ap, _∙_}
-use mathlib.Core.List.{List, [], _∷_, _++_}
+use mathlib.Core.List.{List, _++_}
 use native.Mathlib.Omega.{arith}
 use lib.ListN.{length}
 use Rattle.limits.proofs.Numbers.{itemsMost}
@@ -10,22 +10,17 @@ use Rattle.trace.specs.Rules.{ItemsFit, Rising, Allowed}
 use Rattle.trace.specs.declared.Item.{Item}
 use Rattle.trace.specs.declared.Header.{Header}
 use Rattle.trace.proofs.Allowed.{facts-allowed}
+use Rattle.trace.proofs.Append.{fit-parts, rising-parts}
 use Rattle.trace.proofs.Accepted.{accepted-header, accepted-count, accepted-facts, accepted-rising}
 use Rattle.trace.proofs.Octets.{octets-file}
 use Rattle.trace.proofs.RoundTrip.{reads-back, is-taken}
 use Rattle.join.specs.Trees.{joined}
 use Rattle.join.proofs.Trees.{joins-trees, sums-enough, joins-associate}
-use Rattle.join.proofs.Meeting.{rising-parts}
 use Rattle.faithful.specs.Corollaries.{wholeFile, CutAnywhere, AnyBracketing, LikeTheWholeFile}
 use Rattle.faithful.proofs.Pieces.{items-at-most, references-are}
 use Rattle.faithful.proofs.Files.{taken, replays-as, whole-is, are-files, rises, faithful}
 
 -- ---- cut anywhere
-
--- Of items that fit, one after the other, the first fit, and the second do.
-fit-parts : (a b : List Item) → ItemsFit (a ++ b) → ItemsFit a × ItemsFit b
-fit-parts [] b f = (tt, f)
-fit-parts (i ∷ a) b f = let (p, q) = fit-parts a b (f .1) in ((f .0, p), q)
 
 -- Items of a recording, no more than a file can have, keep the rules of a whole file.
 whole-allowed : (u : List Item) → ItemsFit u → Rising 0 u → length u ≤ itemsMost → Allowed (record { kind = 0; filter = 0; references = length u; items = length u }) u

@@ -7,6 +7,7 @@ use lib.ListN.{length, length-append}
 use Rattle.pages.specs.Rows.{flat}
 use Rattle.trace.specs.Layout.{header, items}
 use Rattle.trace.specs.Rules.{Rising}
+use Rattle.trace.specs.Promises.{IsFile}
 use Rattle.trace.specs.declared.Verdict.the-variants.{Sound}
 use Rattle.trace.proofs.Accepted.{accepted-header, accepted-count, accepted-facts}
 use Rattle.trace.proofs.Checking.{accepted-verdict}
@@ -19,7 +20,7 @@ use Rattle.slim.proofs.Kept.{sub-append, kept-in-order}
 use Rattle.slim.proofs.Order.{sub-rising, reduce-length}
 use Rattle.slim.proofs.Reducing.{reducible-sound, reduce-written, reduce-file}
 use Rattle.slim.proofs.Accepted.{writes-reduced}
-use Rattle.join.specs.Trees.{IsFile, AreFiles, itemsOfAll, largest, total, headerOfAll}
+use Rattle.join.specs.Trees.{AreFiles, itemsOfAll, largest, total, headerOfAll}
 use Rattle.faithful.specs.Parts.{Part, whole, reduced, Sizes}
 use Rattle.faithful.specs.Demand3.{Piece, IsPiece, ArePieces, short, AllAtMost, Reduces, AllReduce}
 

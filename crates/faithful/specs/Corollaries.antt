@@ -5,8 +5,9 @@ use mathlib.Core.List.{List, _++_, map}
 use lib.ListN.{length}
 use Rattle.limits.proofs.Numbers.{itemsMost}
 use Rattle.trace.specs.Layout.{header, items, encode}
+use Rattle.trace.specs.Promises.{IsFile}
 use Rattle.trace.specs.declared.Item.{Item}
-use Rattle.join.specs.Trees.{Tree, files, joined, IsFile, Within}
+use Rattle.join.specs.Trees.{Tree, files, joined, Within}
 use Rattle.lru.specs.Replay.{cacheAfter, eventsAfter}
 use Rattle.faithful.specs.Demand3.{IsRecording, Piece, IsCut, short, IsJoinOf, IsCache, ReplaysAs, Faithful}
 

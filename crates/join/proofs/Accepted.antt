@@ -16,15 +16,16 @@ use Rattle.trace.specs.Promises.{AreBytes, Says}
 use Rattle.trace.specs.declared.Header.{Header}
 use Rattle.trace.specs.declared.Verdict.the-variants.{Sound}
 use Rattle.trace.proofs.Allowed.{Facts, allowed-facts, facts-allowed, filter-most}
+use Rattle.trace.proofs.Append.{fit-append}
 use Rattle.trace.proofs.Checking.{check-sound}
 use Rattle.trace.proofs.Accepted.{is-determined}
 use Rattle.trace.proofs.RoundTrip.{reads-back, is-taken}
 use Rattle.join.specs.Join.{joinedKind, joinedHeader, joinedFile, judged}
-use Rattle.join.specs.Promises.{IsJoined, WritesJoined}
+use Rattle.join.specs.Promises.{WritesJoined}
 use Rattle.join.specs.declared.Judged.the-variants.{Passed}
 use Rattle.join.proofs.Heading.{kind-whole}
 use Rattle.join.proofs.Joining.{Joinable, passed-joinable}
-use Rattle.join.proofs.Meeting.{fit-append, rising-joined}
+use Rattle.join.proofs.Meeting.{rising-joined}
 
 -- ---- the kind
 

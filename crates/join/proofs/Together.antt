@@ -62,16 +62,25 @@ header-one f w =
     let n : header f .items ≡ header f .items + 0 = omega arith in
     rw (← k, ← b, ← r, ← n)
 
--- The header of what two rows of files come to is the header of both rows.
-pub header-both : (f g : List ℕ) (fs gs : List (List ℕ)) → header f ≡ headerOfAll fs → header g ≡ headerOfAll gs → joinedHeader f g ≡ headerOfAll (fs ++ gs)
-unfolding joinedHeader headerOfAll
-header-both f g fs gs p q = rw (p, q, map-append, map-append, map-append, map-append, ← kinds-append, ← largest-append, ← total-append, ← total-append)
+-- Each value of the header of two rows of files is that of the two rows' headers, joined.
+module _ (fs gs : List (List ℕ)) where
+  kind-together : joinedKind (headerOfAll fs .kind) (headerOfAll gs .kind) ≡ headerOfAll (fs ++ gs) .kind
+  unfolding headerOfAll
+  kind-together = rw map-append (kinds-append _ _)
 
--- So its items and its references are the sums of the two rows'.
-pub items-together : (fs gs : List (List ℕ)) → headerOfAll (fs ++ gs) .items ≡ headerOfAll fs .items + headerOfAll gs .items
-unfolding headerOfAll
-items-together fs gs = rw (map-append (λ (f : List ℕ). header f .items) fs gs, ← total-append)
+  filter-together : max (headerOfAll fs .filter) (headerOfAll gs .filter) ≡ headerOfAll (fs ++ gs) .filter
+  unfolding headerOfAll
+  filter-together = rw map-append (largest-append _ _)
 
-pub references-together : (fs gs : List (List ℕ)) → headerOfAll (fs ++ gs) .references ≡ headerOfAll fs .references + headerOfAll gs .references
-unfolding headerOfAll
-references-together fs gs = rw (map-append (λ (f : List ℕ). header f .references) fs gs, ← total-append)
+  pub references-together : headerOfAll fs .references + headerOfAll gs .references ≡ headerOfAll (fs ++ gs) .references
+  unfolding headerOfAll
+  references-together = rw map-append (total-append _ _)
+
+  pub items-together : headerOfAll fs .items + headerOfAll gs .items ≡ headerOfAll (fs ++ gs) .items
+  unfolding headerOfAll
+  items-together = rw map-append (total-append _ _)
+
+  -- So the header of what two rows of files come to is the header of both rows.
+  pub header-both : (f g : List ℕ) → header f ≡ headerOfAll fs → header g ≡ headerOfAll gs → joinedHeader f g ≡ headerOfAll (fs ++ gs)
+  unfolding joinedHeader
+  header-both f g p q = rw (p, q, kind-together, filter-together, references-together, items-together)

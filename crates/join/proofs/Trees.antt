@@ -8,15 +8,17 @@ use Rattle.limits.proofs.Numbers.{itemsMost}
 use Rattle.pages.proofs.Rows.{flat-append, flat-one}
 use Rattle.trace.specs.Layout.{header, items}
 use Rattle.trace.specs.Rules.{Rising}
+use Rattle.trace.specs.Promises.{IsFile}
 use Rattle.trace.proofs.Accepted.{accepted-header, accepted-long, accepted-facts, is-determined, same-file}
+use Rattle.trace.proofs.Append.{rising-parts}
 use Rattle.trace.proofs.Checking.{accepted-verdict}
 use Rattle.trace.proofs.Octets.{octets-file}
 use Rattle.join.specs.Join.{joinedHeader, joinedFile, judged}
-use Rattle.join.specs.Trees.{Tree, files, joined, IsFile, AreFiles, itemsOfAll, SumsFit, Joins, headerOfAll, IsJoinedTree, JoinsTrees, SumsAreEnough, JoinsAssociate}
+use Rattle.join.specs.Trees.{Tree, files, joined, AreFiles, itemsOfAll, SumsFit, Joins, headerOfAll, IsJoinedTree, JoinsTrees, SumsAreEnough, JoinsAssociate}
 use Rattle.join.specs.Trees.Tree.{one, both}
 use Rattle.join.specs.declared.Judged.the-variants.{Passed}
 use Rattle.join.proofs.Joining.{joinable-passed, join-written, join-file}
-use Rattle.join.proofs.Meeting.{rising-parts, joined-rising}
+use Rattle.join.proofs.Meeting.{joined-rising}
 use Rattle.join.proofs.Accepted.{writes-joined}
 use Rattle.join.proofs.Together.{header-one, header-both, items-together, references-together}
 
@@ -88,7 +90,7 @@ tree-both l r a b up s =
     record {
       all-join = (joins (joined l) (joined r) (a .is-file) (b .is-file) rises s, a .all-join, b .all-join);
       is-file = w;
-      header-is = h ∙ header-both (joined l) (joined r) (files l) (files r) (a .header-is) (b .header-is);
+      header-is = h ∙ header-both (files l) (files r) (joined l) (joined r) (a .header-is) (b .header-is);
       items-are = i ∙ both-items;
     }
 

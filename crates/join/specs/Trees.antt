@@ -9,11 +9,9 @@ use Rattle.pages.specs.Rows.{flat, over}
 use Rattle.pages.specs.Pages.{has}
 use Rattle.trace.specs.Layout.{header, items}
 use Rattle.trace.specs.Rules.{Rising}
-use Rattle.trace.specs.Check.{checked}
-use Rattle.trace.specs.Promises.{AreBytes}
+use Rattle.trace.specs.Promises.{IsFile}
 use Rattle.trace.specs.declared.Item.{Item}
 use Rattle.trace.specs.declared.Header.{Header}
-use Rattle.trace.specs.declared.Checked.the-variants.{Accepted}
 use Rattle.join.specs.Join.{joinedHeader, joinedFile, joinAnswer, joinOut}
 use Rattle.join.specs.declared.Joined.the-variants.{Written}
 
@@ -36,11 +34,7 @@ joined (both l r) = joinedFile (joined l) (joined r)
 
 -- ---- which trees are joined
 
--- A file of bytes that `check` accepts.
-pub record IsFile (f : List ℕ) : Type 0 where
-  pub bytes : AreBytes f
-  pub accepted : checked f ≡ Accepted (header f)
-
+-- Each of some files is one of bytes that `check` accepts.
 abbrev pub AreFiles : List (List ℕ) → Type 0
 AreFiles [] = Unit {0}
 AreFiles (f ∷ fs) = IsFile f × AreFiles fs

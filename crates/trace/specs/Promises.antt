@@ -15,6 +15,11 @@ use Rattle.trace.specs.declared.Checked.the-variants.{Accepted}
 abbrev pub AreBytes : List ℕ → Type 0
 AreBytes f = (i : ℕ) → getD f i 0 < 256
 
+-- A file: a row of bytes that `check` accepts.
+pub record IsFile (f : List ℕ) : Type 0 where
+  pub bytes : AreBytes f
+  pub accepted : checked f ≡ Accepted (header f)
+
 -- "A written trace reads back as the items that went in": for every header and items that the rules allow.
 abbrev pub ReadsBack : Type 0
 ReadsBack = (h : Header) (t : List Item) → Allowed h t → decode (encode h t) ≡ record { header = h; items = t }
