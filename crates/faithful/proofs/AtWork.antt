@@ -38,7 +38,7 @@ recording =
 cut-in-three : IsCut T three
 unfolding checked answer verdict first _then_ itemsVerdict isField allowed isMode flat encode encodeHeader encodeItems encodeItem field bytes header items itemsOf item numberAt number
 cut-in-three = record {
-  pieces = (
+  portions = (
     record { is-file = record { bytes = octets-file (whole 5) (take 5 T); accepted = refl }; whole = refl; either-mode = refl; least = omega arith; most = omega arith },
     (
       record { is-file = record { bytes = octets-file (whole 3) (take 3 (drop 5 T)); accepted = refl }; whole = refl; either-mode = refl; least = omega arith; most = omega arith },

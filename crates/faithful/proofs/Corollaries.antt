@@ -17,8 +17,8 @@ use Rattle.trace.proofs.RoundTrip.{reads-back, is-taken}
 use Rattle.join.specs.Trees.{joined}
 use Rattle.join.proofs.Trees.{joins-trees, sums-enough, joins-associate}
 use Rattle.faithful.specs.Corollaries.{wholeFile, CutAnywhere, AnyBracketing, LikeTheWholeFile}
-use Rattle.faithful.proofs.Pieces.{items-at-most, references-are}
-use Rattle.faithful.proofs.Files.{taken, replays-as, whole-is, are-files, rises, faithful}
+use Rattle.faithful.proofs.Portions.{items-at-most, references-are}
+use Rattle.faithful.proofs.Files.{taken, replays-as, recording-is, are-files, rises, faithful}
 
 -- ---- cut anywhere
 
@@ -71,9 +71,9 @@ like-the-whole-file f a z ps c j o K cache resident k events room =
     let up = accepted-rising f (header f) (a .accepted) in
     let facts = accepted-facts f (header f) (a .accepted) in
     let count = accepted-count f (header f) (a .accepted) in
-    let all = ap length (whole-is (items f) up ps c j o) in
-    let few = items-at-most ps (c .pieces) in
-    let refs = references-are ps (c .pieces) in
+    let all = ap length (recording-is (items f) up ps c j o) in
+    let few = items-at-most ps (c .portions) in
+    let refs = references-are ps (c .portions) in
     let most = facts .few in
     let w = sums-enough j (are-files (items f) up ps c j o) (rises (items f) up ps c j o) (rw o (omega arith)) (rw o (omega arith)) in
     let b = joins-trees j (are-files (items f) up ps c j o) (rises (items f) up ps c j o) w in

@@ -16,19 +16,19 @@ use Rattle.join.specs.Join.{joinedKind, joinedHeader, joinedFile}
 use Rattle.join.specs.Trees.{Tree, joined}
 use Rattle.join.specs.Trees.Tree.{one, both}
 use Rattle.lru.specs.Lru.{hit, fetch, step, _then_, replay, word, words}
-use Rattle.faithful.specs.Demand3.{Piece, short}
+use Rattle.faithful.specs.Demand3.{Portion, short}
 
 -- T up to time 50, from 60 to 80, and from 90 on; by FastSlim-Demand, FastSlim and FastSlim-Demand, with filters of 2, 3 and 1 pages.
-abbrev pub beginning : Piece
+abbrev pub beginning : Portion
 beginning = record { file = encode (whole 5) (take 5 T); mode = 2; size = 2 }
 
-abbrev pub middle : Piece
+abbrev pub middle : Portion
 middle = record { file = encode (whole 3) (take 3 (drop 5 T)); mode = 1; size = 3 }
 
-abbrev pub end : Piece
+abbrev pub end : Portion
 end = record { file = encode (whole 4) (drop 8 T); mode = 2; size = 1 }
 
-abbrev pub three : List Piece
+abbrev pub three : List Portion
 three = beginning ∷ middle ∷ end ∷ []
 
 -- The first two joined first, and the last two.

@@ -9,7 +9,7 @@ use Rattle.trace.specs.Promises.{IsFile}
 use Rattle.trace.specs.declared.Item.{Item}
 use Rattle.join.specs.Trees.{Tree, files, joined, Within}
 use Rattle.lru.specs.Replay.{cacheAfter, eventsAfter}
-use Rattle.faithful.specs.Demand3.{IsRecording, Piece, IsCut, short, IsJoinOf, IsCache, ReplaysAs, Faithful}
+use Rattle.faithful.specs.Demand3.{IsRecording, Portion, IsCut, short, IsJoinOf, IsCache, ReplaysAs, Faithful}
 
 -- ---- "cut anywhere"
 
@@ -33,7 +33,7 @@ CutAnywhere = (before u after : List Item) → IsRecording (before ++ (u ++ afte
 abbrev pub AnyBracketing : Type 0
 AnyBracketing =
     (t : List Item) → IsRecording t
-    → (ps : List Piece) → IsCut t ps
+    → (ps : List Portion) → IsCut t ps
     → (i j : Tree) → IsJoinOf ps i → files j ≡ map short ps
     → IsJoinOf ps j × (joined i ≡ joined j)
 
@@ -51,7 +51,7 @@ pub record ReplaysLike (f whole : List ℕ) (K : ℕ) (cache : List ℕ) (reside
 abbrev pub LikeTheWholeFile : Type 0
 LikeTheWholeFile =
     (whole : List ℕ) → IsFile whole → header whole .kind ≡ 0
-    → (ps : List Piece) → IsCut (items whole) ps
+    → (ps : List Portion) → IsCut (items whole) ps
     → (j : Tree) → files j ≡ map short ps
     → (K : ℕ) (cache : List ℕ) (resident : ℕ) → IsCache ps K cache resident
     → (events : List ℕ) → 3 * header whole .items ≤ length events

@@ -21,16 +21,16 @@ use Rattle.slim.proofs.Order.{sub-rising, reduce-length}
 use Rattle.slim.proofs.Reducing.{reducible-sound, reduce-written, reduce-file}
 use Rattle.slim.proofs.Accepted.{writes-reduced}
 use Rattle.join.specs.Trees.{AreFiles, itemsOfAll, largest, total, headerOfAll}
-use Rattle.faithful.specs.Parts.{Part, whole, reduced, Sizes}
-use Rattle.faithful.specs.Demand3.{Piece, IsPiece, ArePieces, short, AllAtMost, Reduces, AllReduce}
+use Rattle.faithful.specs.Parts.{Part, recorded, reduced, Sizes}
+use Rattle.faithful.specs.Demand3.{Portion, IsPortion, ArePortions, short, AllAtMost, Reduces, AllReduce}
 
--- What a piece is on items.
-pub part : Piece → Part
+-- What a portion is on items.
+pub part : Portion → Part
 part p = record { mode = modeOf (p .mode); size = p .size; items = items (p .file) }
 
--- ---- one piece
+-- ---- one portion
 
-module _ (p : Piece) (a : IsPiece p) where
+module _ (p : Portion) (a : IsPortion p) where
   -- With room for the file its reduction is not refused.
   reducible : (room : ℕ) → length (p .file) ≤ room → reduceVerdict (p .file) (p .mode) (p .size) room ≡ Sound
   reducible room fits = reducible-sound (p .file) (p .mode) (p .size) room (record {
@@ -59,45 +59,45 @@ module _ (p : Piece) (a : IsPiece p) where
 
 -- ---- all of them
 
-pub all-reduce : (ps : List Piece) → ArePieces ps → AllReduce ps
+pub all-reduce : (ps : List Portion) → ArePortions ps → AllReduce ps
 all-reduce [] a = tt
 all-reduce (p ∷ ps) a = (reduces p (a .0), all-reduce ps (a .1))
 
-pub short-files : (ps : List Piece) → ArePieces ps → AreFiles (map short ps)
+pub short-files : (ps : List Portion) → ArePortions ps → AreFiles (map short ps)
 short-files [] a = tt
 short-files (p ∷ ps) a = (short-is p (a .0) .0, short-files ps (a .1))
 
 -- Their items are the parts reduced, one after the other.
-pub short-items : (ps : List Piece) → ArePieces ps → itemsOfAll (map short ps) ≡ reduced (map part ps)
+pub short-items : (ps : List Portion) → ArePortions ps → itemsOfAll (map short ps) ≡ reduced (map part ps)
 unfolding flat part reduced
 short-items [] a = refl
 short-items (p ∷ ps) a = rw (short-is p (a .0) .2, short-items ps (a .1))
 
 -- The items of the files are the parts, one after the other.
-pub piece-items : (ps : List Piece) → whole (map part ps) ≡ flat (map (λ (p : Piece). items (p .file)) ps)
-unfolding flat part whole
-piece-items [] = refl
-piece-items (p ∷ ps) = rw (piece-items ps)
+pub portion-items : (ps : List Portion) → recorded (map part ps) ≡ flat (map (λ (p : Portion). items (p .file)) ps)
+unfolding flat part recorded
+portion-items [] = refl
+portion-items (p ∷ ps) = rw (portion-items ps)
 
 -- Parts reduced are the parts without some of their items,
-reduced-in-order : (ps : List Part) → Sub (reduced ps) (whole ps)
-unfolding flat reduced whole
+reduced-in-order : (ps : List Part) → Sub (reduced ps) (recorded ps)
+unfolding flat reduced recorded
 reduced-in-order [] = none
 reduced-in-order (p ∷ ps) = sub-append (kept-in-order (p .mode) (p .size) (p .items)) (reduced-in-order ps)
 
 -- so their times do not fall.
-pub reduced-rising : (ps : List Part) → Rising 0 (whole ps) → Rising 0 (reduced ps)
+pub reduced-rising : (ps : List Part) → Rising 0 (recorded ps) → Rising 0 (reduced ps)
 reduced-rising ps r = sub-rising (reduced-in-order ps) 0 r
 
 -- ---- filters
 
-pub piece-sizes : (K : ℕ) (ps : List Piece) → ArePieces ps → AllAtMost K ps → Sizes K (map part ps)
+pub portion-sizes : (K : ℕ) (ps : List Portion) → ArePortions ps → AllAtMost K ps → Sizes K (map part ps)
 unfolding part
-piece-sizes K [] a l = tt
-piece-sizes K (p ∷ ps) a l = (a .0 .least, l .0, piece-sizes K ps (a .1) (l .1))
+portion-sizes K [] a l = tt
+portion-sizes K (p ∷ ps) a l = (a .0 .least, l .0, portion-sizes K ps (a .1) (l .1))
 
 -- The largest filter of the reduced files is at most K.
-pub filter-at-most : (K : ℕ) (ps : List Piece) → ArePieces ps → AllAtMost K ps → headerOfAll (map short ps) .filter ≤ K
+pub filter-at-most : (K : ℕ) (ps : List Portion) → ArePortions ps → AllAtMost K ps → headerOfAll (map short ps) .filter ≤ K
 unfolding headerOfAll largest reducedHeader
 filter-at-most K [] a l = omega arith
 filter-at-most K (p ∷ ps) a l = rw (short-is p (a .0) .1) (omega (arith, l .0, filter-at-most K ps (a .1) (l .1)))
@@ -105,15 +105,15 @@ filter-at-most K (p ∷ ps) a l = rw (short-is p (a .0) .1) (omega (arith, l .0,
 -- ---- counts
 
 -- The reduced files together have no more items than the files have,
-pub items-at-most : (ps : List Piece) → ArePieces ps → headerOfAll (map short ps) .items ≤ length (whole (map part ps))
-unfolding headerOfAll total reducedHeader keptOf flat part whole
+pub items-at-most : (ps : List Portion) → ArePortions ps → headerOfAll (map short ps) .items ≤ length (recorded (map part ps))
+unfolding headerOfAll total reducedHeader keptOf flat part recorded
 items-at-most [] a = omega arith
 items-at-most (p ∷ ps) a =
     rw (short-is p (a .0) .1, length-append) (omega (arith, reduce-length (modeOf (p .mode)) (p .size) (items (p .file)), items-at-most ps (a .1)))
 
 -- and as many references.
-pub references-are : (ps : List Piece) → ArePieces ps → headerOfAll (map short ps) .references ≡ length (whole (map part ps))
-unfolding headerOfAll total reducedHeader flat part whole
+pub references-are : (ps : List Portion) → ArePortions ps → headerOfAll (map short ps) .references ≡ length (recorded (map part ps))
+unfolding headerOfAll total reducedHeader flat part recorded
 references-are [] a = refl
 references-are (p ∷ ps) a =
     let f = p .file in
