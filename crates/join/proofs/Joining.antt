@@ -93,7 +93,7 @@ joinable-passed f g room a =
     let n = header f .items + header g .items in
     let few : between itemsLeast itemsMost n ≡ true = and-both (leb itemsLeast n) (leb n itemsMost) (le-leb itemsLeast n (omega arith)) (le-leb n itemsMost (a .few)) in
     let large : tooLarge f g ≡ false = rw few (le-ltb (2 ^ 32 - 1) (header f .references + header g .references) (a .references-few)) in
-    let own : first (joinTests f g room) ≡ Sound = passed-first (joinTests f g room) (a .meets, (large, (le-ltb room (23 + 19 * n) (a .fits), tt))) in
+    let own : first (joinTests f g room) ≡ Sound = passed-first (joinTests f g room) (search le-ltb) in
     sound-all (verdict f) (verdict g) (first (joinTests f g room)) (a .first-sound) (a .second-sound) own
 
 -- ---- writing the file

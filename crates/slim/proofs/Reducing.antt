@@ -71,8 +71,7 @@ reducible-sound f mode size room a =
     let t : falls 0 (keptOf f mode size) ≡ false = flag-rising f mode size refl (a .file-sound) in
     reduce-then f mode size room
     ∙ both-then (verdict f) (first (reduceTests f mode size room)) (a .file-sound)
-    (passed-first (reduceTests f mode size room)
-    (holds (isMode mode) (a .mode-is), (holds _ b, (holds _ k, (le-ltb room (length f) (a .fits), (t, tt))))))
+    (passed-first (reduceTests f mode size room) (search (holds, le-ltb)))
 
 -- ---- writing the file
 
