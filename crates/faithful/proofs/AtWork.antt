@@ -21,8 +21,8 @@ use Rattle.join.specs.Join.{joinedKind, joinedHeader, joinedFile}
 use Rattle.join.specs.Trees.{files, joined}
 use Rattle.lru.specs.Replay.{cacheAfter, eventsAfter}
 use Rattle.faithful.specs.Demand3.{IsRecording, IsCut, short, IsJoinOf, IsCache, Faithful}
-use Rattle.faithful.specs.Corollaries.{ReplaysLike}
-use Rattle.faithful.specs.AtWork.{three, leftFirst, rightFirst, start, places, fetches-of-T, residents-of-T}
+use Rattle.faithful.specs.Corollaries.{SameReplay}
+use Rattle.faithful.specs.AtWork.{three, leftFirst, rightFirst, lentCache, lentEvents, fetches-of-T, residents-of-T}
 use Rattle.faithful.proofs.Files.{demand-3}
 use Rattle.faithful.proofs.Corollaries.{any-bracketing, like-the-whole-file}
 
@@ -39,11 +39,11 @@ cut-in-three : IsCut T three
 unfolding checked answer verdict first _then_ itemsVerdict isField allowed isMode flat encode encodeHeader encodeItems encodeItem field bytes header items itemsOf item numberAt number
 cut-in-three = record {
   portions = (
-    record { is-file = record { bytes = octets-file (whole 5) (take 5 T); accepted = refl }; whole = refl; either-mode = refl; least = omega arith; most = omega arith },
+    record { is-file = record { bytes = octets-file (whole 5) (take 5 T); accepted = refl }; kind-0 = refl; either-mode = refl; least = omega arith; most = omega arith },
     (
-      record { is-file = record { bytes = octets-file (whole 3) (take 3 (drop 5 T)); accepted = refl }; whole = refl; either-mode = refl; least = omega arith; most = omega arith },
+      record { is-file = record { bytes = octets-file (whole 3) (take 3 (drop 5 T)); accepted = refl }; kind-0 = refl; either-mode = refl; least = omega arith; most = omega arith },
       (
-        record { is-file = record { bytes = octets-file (whole 4) (drop 8 T); accepted = refl }; whole = refl; either-mode = refl; least = omega arith; most = omega arith },
+        record { is-file = record { bytes = octets-file (whole 4) (drop 8 T); accepted = refl }; kind-0 = refl; either-mode = refl; least = omega arith; most = omega arith },
         tt,
       ),
     ),
@@ -56,26 +56,26 @@ unfolding files joined short joinedFile joinedHeader joinedKind reducedFile redu
     encode encodeHeader encodeItems encodeItem field bytes header items itemsOf item numberAt number
 joined-in-order = record { in-order = refl; within = omega arith }
 
-cache-of-three : IsCache three 3 start 3
+cache-of-three : IsCache three 3 lentCache 3
 unfolding has
 cache-of-three = record { least = omega arith; most = omega arith; filters = omega arith; places = omega arith; fits = omega arith; distinct = (refl, (refl, (refl, tt))); free = refl }
 
 -- ---- what is promised
 
 -- From that start, with room for the join alone, none of the three reductions and neither join is refused, and the join replays as T.
-pub at-work : Faithful T three leftFirst 3 start 3 places
+pub at-work : Faithful T three leftFirst 3 lentCache 3 lentEvents
 unfolding joined short joinedFile joinedHeader joinedKind reducedFile reducedHeader keptOf modeOf reduce epochs cut kept keeps phase isFirst isLast pages has add flat
     encode encodeHeader encodeItems encodeItem field bytes header items itemsOf item numberAt number
-at-work = demand-3 T recording three cut-in-three leftFirst joined-in-order 3 start 3 cache-of-three places (omega arith)
+at-work = demand-3 T recording three cut-in-three leftFirst joined-in-order 3 lentCache 3 cache-of-three lentEvents (omega arith)
 
 -- So it leaves T's three fetches in the events buffer, and T's residents in the cache buffer.
-pub fetches-left : eventsAfter (joined leftFirst) 3 start 3 places ≡ 40 ∷ 2 ∷ 4 ∷ 60 ∷ 3 ∷ 9 ∷ 80 ∷ 4 ∷ 2 ∷ replicate 21 7
+pub fetches-left : eventsAfter (joined leftFirst) 3 lentCache 3 lentEvents ≡ 40 ∷ 2 ∷ 4 ∷ 60 ∷ 3 ∷ 9 ∷ 80 ∷ 4 ∷ 2 ∷ replicate 21 7
 unfolding over
-fetches-left = at-work .replays .fetches ∙ ap (λ (w : List ℕ). over w places) fetches-of-T
+fetches-left = at-work .replays .fetches ∙ ap (λ (w : List ℕ). over w lentEvents) fetches-of-T
 
-pub residents-left : cacheAfter (joined leftFirst) 3 start 3 30 ≡ 1 ∷ 3 ∷ 4 ∷ 0 ∷ []
+pub residents-left : cacheAfter (joined leftFirst) 3 lentCache 3 30 ≡ 1 ∷ 3 ∷ 4 ∷ 0 ∷ []
 unfolding over
-residents-left = at-work .replays .residents ∙ ap (λ (w : List ℕ). over w start) residents-of-T
+residents-left = at-work .replays .residents ∙ ap (λ (w : List ℕ). over w lentCache) residents-of-T
 
 -- In the other bracketing the joins are within the limits too, and come to the same file.
 pub other-bracketing : IsJoinOf three rightFirst × (joined leftFirst ≡ joined rightFirst)
@@ -83,8 +83,8 @@ unfolding files
 other-bracketing = any-bracketing T recording three cut-in-three leftFirst rightFirst joined-in-order refl
 
 -- T is itself a file, so the join replays like that file, in buffers with room for it.
-pub like-T : ReplaysLike (joined rightFirst) fileT 3 start 3 (replicate 36 7)
+pub like-T : SameReplay (joined rightFirst) fileT 3 lentCache 3 (replicate 36 7)
 unfolding files checked answer verdict first _then_ itemsVerdict isField allowed encode encodeHeader encodeItems encodeItem field bytes header items itemsOf item numberAt number
 like-T =
-    like-the-whole-file fileT (record { bytes = octets-file (whole 12) T; accepted = refl }) refl three cut-in-three rightFirst refl 3 start 3 cache-of-three (replicate 36 7)
-    (omega arith) .2
+    like-the-whole-file fileT (record { bytes = octets-file (whole 12) T; accepted = refl }) refl three cut-in-three rightFirst refl .1 3 lentCache 3 cache-of-three (replicate 36 7) .1
+    (omega arith)

@@ -1,12 +1,15 @@
--- What follows from demand 3, or fills its clauses. Assumes nothing.
-use Prim.Native.Nat.{_≤_}
-use mathlib.Core.Path.{refl, sym, ap, _∙_}
-use mathlib.Core.List.{List, _++_}
+-- What follows from demand 3, and that its premises can be met. Assumes nothing.
+use Prim.Native.Nat.{ℕ, _*_, _≤_}
+use mathlib.Core.Path.{_≡_, refl, sym, ap, _∙_}
+use mathlib.Core.Bool.{true}
+use mathlib.Core.List.{List, [], _∷_, map}
 use native.Mathlib.Omega.{arith}
 use lib.ListN.{length}
 use Rattle.limits.proofs.Numbers.{itemsMost}
+use Rattle.pages.specs.Rows.{flat}
 use Rattle.trace.specs.Layout.{Trace, header, items, decode}
 use Rattle.trace.specs.Rules.{ItemsFit, Rising, Allowed}
+use Rattle.trace.specs.Promises.{IsFile}
 use Rattle.trace.specs.declared.Item.{Item}
 use Rattle.trace.specs.declared.Header.{Header}
 use Rattle.trace.proofs.Allowed.{facts-allowed}
@@ -14,9 +17,14 @@ use Rattle.trace.proofs.Append.{fit-parts, rising-parts}
 use Rattle.trace.proofs.Accepted.{accepted-header, accepted-count, accepted-facts, accepted-rising}
 use Rattle.trace.proofs.Octets.{octets-file}
 use Rattle.trace.proofs.RoundTrip.{reads-back, is-taken}
-use Rattle.join.specs.Trees.{joined}
+use Rattle.slim.specs.Reduce.{isMode}
+use Rattle.slim.specs.declared.Mode.{Mode}
+use Rattle.slim.specs.declared.Mode.the-variants.{FastSlim, Demand}
+use Rattle.join.specs.Trees.{Tree, files, joined, Within, headerOfAll}
 use Rattle.join.proofs.Trees.{joins-trees, sums-enough, joins-associate}
-use Rattle.faithful.specs.Corollaries.{wholeFile, CutAnywhere, AnyBracketing, LikeTheWholeFile}
+use Rattle.faithful.specs.Parts.{Part, recorded}
+use Rattle.faithful.specs.Demand3.{Portion, IsPortion, IsCut, short, IsCache}
+use Rattle.faithful.specs.Corollaries.{modeNumber, wholeFile, portionOf, FitsAFile, CutAnywhere, AnyBracketing, SameReplay, LikeTheWholeFile}
 use Rattle.faithful.proofs.Portions.{items-at-most, references-are}
 use Rattle.faithful.proofs.Files.{taken, replays-as, recording-is, are-files, rises, faithful}
 
@@ -38,21 +46,44 @@ whole-allowed u f r l = record {
   rising = r;
 }
 
--- Any part of a recording is a file, if it has no more items than a file can.
+-- Each mode is a mode.
+mode-is : (m : Mode) → isMode (modeNumber m) ≡ true
+unfolding isMode
+mode-is FastSlim = refl
+mode-is Demand = refl
+
+module _ (p : Part) (f : ItemsFit (p .items)) (r : Rising 0 (p .items)) (a : FitsAFile p) where
+  says : Allowed (record { kind = 0; filter = 0; references = length (p .items); items = length (p .items) }) (p .items)
+  says = whole-allowed (p .items) f r (a .few)
+
+  -- A part's file says its items,
+  part-items : items (wholeFile (p .items)) ≡ p .items
+  unfolding decode
+  part-items = ap (λ (x : Trace). x .items) (reads-back _ (p .items) says)
+
+  -- and is a portion.
+  part-portion : IsPortion (portionOf p)
+  part-portion =
+      let w : Header = record { kind = 0; filter = 0; references = length (p .items); items = length (p .items) } in
+      let t = is-taken w (p .items) says in
+      let h = accepted-header (wholeFile (p .items)) w t in
+      record {
+        is-file = record { bytes = octets-file w (p .items); accepted = rw h t };
+        kind-0 = rw h;
+        either-mode = mode-is (p .mode);
+        least = a .least;
+        most = a .most;
+      }
+
+-- A recording, wherever it is cut into parts that fit files, is cut into files.
 pub cut-anywhere : CutAnywhere
-unfolding decode
-cut-anywhere before u after r l =
-    let (_, f) = fit-parts before (u ++ after) (r .items-fit) in
-    let (_, s) = rising-parts 0 before (u ++ after) (r .rising) in
-    let w : Header = record { kind = 0; filter = 0; references = length u; items = length u } in
-    let a = whole-allowed u (fit-parts u after f .0) (rising-parts 0 u after s .0) l in
-    let t = is-taken w u a in
-    let h = accepted-header (wholeFile u) w t in
-    record {
-      is-file = record { bytes = octets-file w u; accepted = rw h t };
-      whole = rw h;
-      items-are = ap (λ (x : Trace). x .items) (reads-back w u a);
-    }
+unfolding flat recorded
+cut-anywhere [] r a = record { portions = tt; consecutive = refl }
+cut-anywhere (p ∷ ps) r a =
+    let (f, g) = fit-parts (p .items) (recorded ps) (r .items-fit) in
+    let (u, v) = rising-parts 0 (p .items) (recorded ps) (r .rising) in
+    let c = cut-anywhere ps (record { items-fit = g; rising = v }) (a .1) in
+    record { portions = (part-portion p f u (a .0), c .portions); consecutive = rw (part-items p f u (a .0), c .consecutive) }
 
 -- ---- any bracketing
 
@@ -65,20 +96,44 @@ any-bracketing t r ps c i j p o =
 
 -- ---- a recording that is one file
 
--- Where the recording is a file of kind 0, every join is within the limits, and the last replays like that file.
+module _ (f : List ℕ) (a : IsFile f) (z : header f .kind ≡ 0) (ps : List Portion) (c : IsCut (items f) ps) (j : Tree) (o : files j ≡ map short ps) where
+  up : Rising 0 (items f)
+  up = accepted-rising f (header f) (a .accepted)
+
+  -- Neither the items nor the references of the join are more than the file's items, and those are within the limits.
+  sums : (headerOfAll (files j) .items ≤ header f .items) × (headerOfAll (files j) .references ≡ header f .items) × (header f .items ≤ itemsMost)
+  sums =
+      let count = accepted-count f (header f) (a .accepted) in
+      let all = ap length (recording-is (items f) up ps c j o) in
+      let few = items-at-most ps (c .portions) in
+      let refs = references-are ps (c .portions) in
+      let most = accepted-facts f (header f) (a .accepted) .few in
+      rw o (omega arith, omega arith, most)
+
+  -- So every join is within the limits.
+  within : Within j
+  within = let s = sums in sums-enough j (are-files (items f) up ps c j o) (rises (items f) up ps c j o) (omega arith) (omega arith)
+
+  fewer : header (joined j) .items ≤ header f .items
+  fewer = rw (joins-trees j (are-files (items f) up ps c j o) (rises (items f) up ps c j o) within .header-is) (sums .0)
+
+  -- With room for the file the join leaves what the file leaves.
+  same-replay : (K : ℕ) (cache : List ℕ) (resident : ℕ) → IsCache ps K cache resident → (events : List ℕ) → 3 * header f .items ≤ length events
+      → SameReplay (joined j) f K cache resident events
+  same-replay K cache resident k events room =
+      let (filter, _) = accepted-facts f (header f) (a .accepted) .whole z in
+      let n = fewer in
+      let p = faithful (items f) up ps c j o within K cache resident k events (omega arith) .replays in
+      let q = replays-as f K cache resident events a (taken f K cache resident events a ps k (omega arith) room) (items f) refl in
+      record { first-as = p; second-as = q; events-same = p .fetches ∙ sym (q .fetches); residents-same = p .residents ∙ sym (q .residents) }
+
+-- Where the recording is a file of kind 0, no premise on the joins is needed.
 pub like-the-whole-file : LikeTheWholeFile
-like-the-whole-file f a z ps c j o K cache resident k events room =
-    let up = accepted-rising f (header f) (a .accepted) in
-    let facts = accepted-facts f (header f) (a .accepted) in
-    let count = accepted-count f (header f) (a .accepted) in
-    let all = ap length (recording-is (items f) up ps c j o) in
-    let few = items-at-most ps (c .portions) in
-    let refs = references-are ps (c .portions) in
-    let most = facts .few in
-    let w = sums-enough j (are-files (items f) up ps c j o) (rises (items f) up ps c j o) (rw o (omega arith)) (rw o (omega arith)) in
-    let b = joins-trees j (are-files (items f) up ps c j o) (rises (items f) up ps c j o) w in
-    let fewer : header (joined j) .items ≤ header f .items = rw (b .header-is, o) (omega arith) in
-    let (filter, _) = facts .whole z in
-    let p = faithful (items f) up ps c j o w K cache resident k events (omega arith) in
-    let q = replays-as f K cache resident events a (taken f K cache resident events a ps k (omega arith) room) (items f) refl in
-    (w, p, record { short-one = p .replays; long-one = q; events-same = p .replays .fetches ∙ sym (q .fetches); residents-same = p .replays .residents ∙ sym (q .residents) })
+like-the-whole-file f a z ps c j o =
+    let w = within f a z ps c j o in (
+      w,
+      λ K cache resident k events. (
+        λ room. faithful (items f) (up f a z ps c j o) ps c j o w K cache resident k events room,
+        λ room. same-replay f a z ps c j o K cache resident k events room,
+      ),
+    )

@@ -38,7 +38,7 @@ module _ (p : Portion) (a : IsPortion p) where
     mode-is = a .either-mode;
     least = a .least;
     most = a .most;
-    whole = a .whole;
+    whole = a .kind-0;
     fits = fits;
   })
 
@@ -118,5 +118,5 @@ references-are [] a = refl
 references-are (p ∷ ps) a =
     let f = p .file in
     let e = a .0 .is-file .accepted in
-    let (_, same) = accepted-facts f (header f) e .whole (a .0 .whole) in
+    let (_, same) = accepted-facts f (header f) e .whole (a .0 .kind-0) in
     rw (short-is p (a .0) .1, length-append) (omega (arith, accepted-count f (header f) e, references-are ps (a .1)))

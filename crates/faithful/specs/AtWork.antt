@@ -1,4 +1,5 @@
--- Demand 3 on trace T: cut in three, each file reduced in its own way, joined in both bracketings, and replayed from a start with pages. Assumes nothing.
+-- Demand 3 on trace T: cut in three, each file reduced in its own way, joined in both bracketings, and replayed from a start with pages. Set up here; what demand 3 promises of it is in
+-- `proofs/AtWork.antt`. Assumes nothing.
 use Prim.Native.Nat.{ℕ}
 use mathlib.Core.Path.{_≡_, refl}
 use mathlib.Core.List.{List, [], _∷_, map}
@@ -39,11 +40,11 @@ abbrev pub rightFirst : Tree
 rightFirst = both (one (short beginning)) (both (one (short middle)) (one (short end)))
 
 -- A buffer of four places for a cache of three pages, which starts with pages 9, 1 and 4; and an events buffer with room for the join alone, 30 places for its 10 items.
-abbrev pub start : List ℕ
-start = 9 ∷ 1 ∷ 4 ∷ 0 ∷ []
+abbrev pub lentCache : List ℕ
+lentCache = 9 ∷ 1 ∷ 4 ∷ 0 ∷ []
 
-abbrev pub places : List ℕ
-places = replicate 30 7
+abbrev pub lentEvents : List ℕ
+lentEvents = replicate 30 7
 
 -- What is kept of the three files: all but times 20 and 30.
 kept-of-three : map (λ (i : Item). i .time) (items (joined leftFirst)) ≡ 10 ∷ 40 ∷ 50 ∷ 60 ∷ 70 ∷ 80 ∷ 90 ∷ 100 ∷ 110 ∷ 120 ∷ []
@@ -63,10 +64,10 @@ unfolding joined short joinedFile joinedHeader joinedKind reducedFile reducedHea
 header-of-three = refl
 
 -- What LRU does with T from that start: page 1 is there; 2 evicts 4, 3 evicts 9, 4 evicts 2; at the end 1, 3 and 4 are there.
-pub fetches-of-T : words ((replay 3 (take 3 start) T) .events) ≡ 40 ∷ 2 ∷ 4 ∷ 60 ∷ 3 ∷ 9 ∷ 80 ∷ 4 ∷ 2 ∷ []
+pub fetches-of-T : words ((replay 3 (take 3 lentCache) T) .events) ≡ 40 ∷ 2 ∷ 4 ∷ 60 ∷ 3 ∷ 9 ∷ 80 ∷ 4 ∷ 2 ∷ []
 unfolding replay _then_ step hit fetch words word has remove
 fetches-of-T = refl
 
-pub residents-of-T : (replay 3 (take 3 start) T) .final ≡ 1 ∷ 3 ∷ 4 ∷ []
+pub residents-of-T : (replay 3 (take 3 lentCache) T) .final ≡ 1 ∷ 3 ∷ 4 ∷ []
 unfolding replay _then_ step hit fetch has remove
 residents-of-T = refl

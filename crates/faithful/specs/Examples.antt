@@ -6,7 +6,7 @@ use lib.ListN.{length, take, drop, replicate}
 use Rattle.pages.specs.Rows.{flat, over}
 use Rattle.pages.specs.Pages.{has, add, remove}
 use Rattle.trace.specs.Bytes.{number, numberAt, bytes}
-use Rattle.trace.specs.Layout.{field, encodeHeader, encodeItem, encodeItems, encode, header, item, itemsOf, items}
+use Rattle.trace.specs.Layout.{field, encodeHeader, encodeItem, encodeItems, encode, header, item, itemAt, itemsOf, items}
 use Rattle.trace.specs.Rules.{allowed}
 use Rattle.trace.specs.Verdict.{first}
 use Rattle.trace.specs.Verdict as verdicts
@@ -18,7 +18,9 @@ use Rattle.slim.specs.Keep.{isFirst, isLast, phase, keeps, kept, reduce}
 use Rattle.slim.specs.Reduce.{isMode, modeOf, keptOf, reducedHeader, reducedFile, falls, reduceVerdict, reduceAnswer}
 use Rattle.slim.specs.declared.Reduced.{Reduced}
 use Rattle.slim.specs.declared.Reduced.the-variants as reductions
-use Rattle.join.specs.Join.{joinedKind, joinedHeader, joinedFile}
+use Rattle.join.specs.Join.{joinedKind, joinedHeader, joinedFile, meetsFalling, tooLarge, judged, joinAnswer}
+use Rattle.join.specs.declared.Joined.{Joined}
+use Rattle.join.specs.declared.Joined.the-variants as joins
 use Rattle.lru.specs.Lru.{Event, hit, fetch, step, _then_, replay, word, words}
 use Rattle.lru.specs.Tally.{isFetch, isEviction, tallied, tally, perMillion}
 use Rattle.lru.specs.Replay.{twice, badStart, replayVerdict, replayOf, summaryOf, replayAnswer, cacheAfter, eventsAfter}
@@ -88,6 +90,14 @@ reduction a =
       | reductions.Refused r ↦ r .number ∷ r .trace ∷ r .item ∷ []
     ]
 
+-- And of a join.
+abbrev pub joining : Joined → List ℕ
+joining a =
+    elim a [
+      | joins.Written h ↦ 0 ∷ h .kind ∷ h .filter ∷ h .references ∷ h .items ∷ []
+      | joins.Refused r ↦ r .number ∷ r .trace ∷ r .item ∷ []
+    ]
+
 -- The answer of a replay: 0 and items, fetches, evictions, resident pages and fetches per million; or the refusal, whose number is not 0, and the resident count.
 abbrev pub told : Replayed → List ℕ
 told a =
@@ -151,6 +161,7 @@ examples =
     -- "T cut after time 70, each part reduced by demand with B = 2: 5 and 5 items; the join replays at K = 2 with the same five fetch lines, per million 500000."
     ∷ (reduction (reduceAnswer before 2 2 (length before)) says 0 ∷ 2 ∷ 2 ∷ 7 ∷ 5 ∷ [])
     ∷ (reduction (reduceAnswer after 2 2 (length after)) says 0 ∷ 2 ∷ 2 ∷ 5 ∷ 5 ∷ [])
+    ∷ (joining (joinAnswer (demand 2 before) (demand 2 after) (length rejoined)) says 0 ∷ 2 ∷ 2 ∷ 12 ∷ 10 ∷ [])
     ∷ (fetches 2 rejoined says
     10 ∷ 1 ∷ 18446744073709551615 ∷ 40 ∷ 2 ∷ 18446744073709551615 ∷ 60 ∷ 3 ∷ 2 ∷ 80 ∷ 4 ∷ 1 ∷ 110 ∷ 1 ∷ 4 ∷ [])
     ∷ (answer 2 rejoined says 0 ∷ 10 ∷ 5 ∷ 3 ∷ 2 ∷ 500000 ∷ [])
@@ -177,8 +188,8 @@ examples =
 -- Every example holds.
 pub examples-hold : map (λ (e : Example). e .found) examples ≡ map (λ (e : Example). e .paper) examples
 unfolding reduceAnswer reduceVerdict reducedFile reducedHeader keptOf modeOf isMode falls reduce epochs cut kept keeps phase isFirst isLast pages
-    joinedFile joinedHeader joinedKind
+    joinAnswer judged meetsFalling tooLarge joinedFile joinedHeader joinedKind
     replayAnswer replayVerdict summaryOf replayOf cacheAfter eventsAfter badStart twice replay _then_ step hit fetch words word tally tallied isFetch isEviction perMillion
     has add remove flat over
-    encode encodeHeader encodeItems encodeItem field bytes verdict first verdicts._then_ itemsVerdict isField allowed header items itemsOf item numberAt number
+    encode encodeHeader encodeItems encodeItem field bytes verdict first verdicts._then_ itemsVerdict isField allowed header items itemsOf itemAt item numberAt number
 examples-hold = refl

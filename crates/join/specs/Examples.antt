@@ -31,11 +31,11 @@ unfolding joinedKind
 kinds = refl
 
 -- A header with these four values, and the file of it and some items.
-abbrev says : ℕ → ℕ → ℕ → ℕ → Header
-says kind filter references count = record { kind = kind; filter = filter; references = references; items = count }
+abbrev heading : ℕ → ℕ → ℕ → ℕ → Header
+heading kind filter references count = record { kind = kind; filter = filter; references = references; items = count }
 
 abbrev file : ℕ → ℕ → ℕ → List Item → List ℕ
-file kind filter references t = encode (says kind filter references (length t)) t
+file kind filter references t = encode (heading kind filter references (length t)) t
 
 -- Two items reduced by FastSlim with filter size 8, of 5 references, and one by FastSlim-Demand with 3, of 9; the second begins at the time at which the first ends.
 abbrev earlier : List ℕ
@@ -45,14 +45,14 @@ abbrev later : List ℕ
 later = file 2 3 9 (3 at 20 ∷ [])
 
 -- Their join takes 80 bytes.
-abbrev both : List ℕ
-both = file 2 8 14 (1 at 10 ∷ 2 at 20 ∷ 3 at 20 ∷ [])
+abbrev together : List ℕ
+together = file 2 8 14 (1 at 10 ∷ 2 at 20 ∷ 3 at 20 ∷ [])
 
 -- "References added; the larger filter size", whichever file has it; and the answer is the header of the joined file.
 headers : (joinAnswer earlier later 80 ∷ joinAnswer later (file 1 8 5 (1 at 20 ∷ 2 at 30 ∷ [])) 80 ∷ joinAnswer (file 0 0 1 (1 at 10 ∷ [])) (file 0 0 1 (1 at 10 ∷ [])) 80 ∷ [])
-    ≡ Written (says 2 8 14 3)
-    ∷ Written (says 2 8 14 3)
-    ∷ Written (says 0 0 2 2)
+    ≡ Written (heading 2 8 14 3)
+    ∷ Written (heading 2 8 14 3)
+    ∷ Written (heading 0 0 2 2)
     ∷ []
 unfolding joinAnswer judged meetsFalling tooLarge joinedHeader joinedKind
     encode encodeHeader encodeItems encodeItem field bytes verdict first _then_ itemsVerdict isField allowed header itemAt item numberAt number
@@ -66,13 +66,13 @@ in-order = refl
 -- ---- the output
 
 -- The joined file, and beyond it what there was.
-output : joinOut earlier later (replicate 83 7) ≡ both ++ (7 ∷ 7 ∷ 7 ∷ [])
+output : joinOut earlier later (replicate 83 7) ≡ together ++ (7 ∷ 7 ∷ 7 ∷ [])
 unfolding joinOut judged meetsFalling tooLarge joinedFile joinedHeader joinedKind over
     encode encodeHeader encodeItems encodeItem field bytes verdict first _then_ itemsVerdict isField allowed header items itemsOf itemAt item numberAt number
 output = refl
 
 -- 11, "shorter than the joined file": 80 bytes are room, 79 are not.
-room : (joinAnswer earlier later 80 ∷ joinAnswer earlier later 79 ∷ []) ≡ Written (says 2 8 14 3) ∷ Refused (refused 11 0) ∷ []
+room : (joinAnswer earlier later 80 ∷ joinAnswer earlier later 79 ∷ []) ≡ Written (heading 2 8 14 3) ∷ Refused (refused 11 0) ∷ []
 unfolding joinAnswer judged meetsFalling tooLarge joinedHeader joinedKind
     encode encodeHeader encodeItems encodeItem field bytes verdict first _then_ itemsVerdict isField allowed header itemAt item numberAt number
 room = refl
@@ -95,10 +95,10 @@ falling : (
     ∷ []
     )
     ≡ Refused (refused 12 0)
-    ∷ Written (says 1 8 6 3)
-    ∷ Written (says 1 8 5 2)
-    ∷ Written (says 2 3 9 1)
-    ∷ Written (says 0 0 0 0)
+    ∷ Written (heading 1 8 6 3)
+    ∷ Written (heading 1 8 5 2)
+    ∷ Written (heading 2 3 9 1)
+    ∷ Written (heading 0 0 0 0)
     ∷ []
 unfolding joinAnswer judged meetsFalling tooLarge joinedHeader joinedKind
     encode encodeHeader encodeItems encodeItem field bytes verdict first _then_ itemsVerdict isField allowed header itemAt item numberAt number
@@ -108,7 +108,7 @@ falling = refl
 
 -- "References over 4,294,967,295": a file of 4,294,967,290 references takes 5 more and not 6.
 references : map (λ (n : ℕ). joinAnswer (file 1 8 4294967290 (1 at 10 ∷ [])) (file 1 8 n (1 at 10 ∷ [])) 80) (5 ∷ 6 ∷ [])
-    ≡ Written (says 1 8 4294967295 2)
+    ≡ Written (heading 1 8 4294967295 2)
     ∷ Refused (refused 13 0)
     ∷ []
 unfolding joinAnswer judged meetsFalling tooLarge joinedHeader joinedKind

@@ -34,7 +34,7 @@ joined (both l r) = joinedFile (joined l) (joined r)
 
 -- ---- which trees are joined
 
--- Each of some files is one of bytes that `check` accepts.
+-- Each of some rows is a file.
 abbrev pub AreFiles : List (List ℕ) → Type 0
 AreFiles [] = Unit {0}
 AreFiles (f ∷ fs) = IsFile f × AreFiles fs
@@ -48,7 +48,7 @@ pub record SumsFit (f g : List ℕ) : Type 0 where
   pub items-few : header f .items + header g .items ≤ itemsMost
   pub references-few : header f .references + header g .references ≤ 2 ^ 32 - 1
 
--- They are at each join of a tree.
+-- The sums fit at each join of a tree.
 abbrev pub Within : Tree → Type 0
 Within (one f) = Unit {0}
 Within (both l r) = SumsFit (joined l) (joined r) × Within l × Within r
@@ -60,7 +60,7 @@ pub record Joins (f g : List ℕ) : Type 0 where
   pub answers : (out : List ℕ) → length (joinedFile f g) ≤ length out → joinAnswer f g (length out) ≡ Written (joinedHeader f g)
   pub writes : (out : List ℕ) → length (joinedFile f g) ≤ length out → joinOut f g out ≡ over (joinedFile f g) out
 
--- No join of a tree is refused.
+-- No join of a tree is refused that has room.
 abbrev pub AllJoin : Tree → Type 0
 AllJoin (one f) = Unit {0}
 AllJoin (both l r) = Joins (joined l) (joined r) × AllJoin l × AllJoin r
@@ -87,7 +87,7 @@ headerOfAll fs = record {
   items = total (map (λ (f : List ℕ). header f .items) fs);
 }
 
--- No join is refused, and the file that the tree comes to has the header of all its files, and their items one after the other.
+-- No join is refused that has room, and the file that the tree comes to has the header of all its files, and their items one after the other.
 pub record IsJoinedTree (t : Tree) : Type 0 where
   pub all-join : AllJoin t
   pub is-file : IsFile (joined t)
@@ -98,13 +98,13 @@ pub record IsJoinedTree (t : Tree) : Type 0 where
 abbrev pub JoinsTrees : Type 0
 JoinsTrees = (t : Tree) → AreFiles (files t) → Rising 0 (itemsOfAll (files t)) → Within t → IsJoinedTree t
 
--- Where all items together, and all references, are within the limits, they are at each join, in any bracketing.
+-- Of such files: where all items together, and all references, are within the limits, they are at each join, in any bracketing.
 abbrev pub SumsAreEnough : Type 0
 SumsAreEnough =
     (t : Tree) → AreFiles (files t) → Rising 0 (itemsOfAll (files t))
     → headerOfAll (files t) .items ≤ itemsMost → headerOfAll (files t) .references ≤ 2 ^ 32 - 1 → Within t
 
--- Joining is associative: two trees of the same files in the same order stay within the limits together, and come to the same file.
+-- And joining them is associative: two trees of the same files in the same order stay within the limits together, and come to the same file.
 abbrev pub JoinsAssociate : Type 0
 JoinsAssociate =
     (s t : Tree) → files s ≡ files t → AreFiles (files s) → Rising 0 (itemsOfAll (files s)) → Within s

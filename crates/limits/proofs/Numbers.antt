@@ -38,7 +38,7 @@ inputLeast = input-least tt tt
 abbrev pub inputMost : ℕ
 inputMost = input-most tt tt
 
--- "Filter size 1 to 1,024. Cache size 1 to 4,096. Items in a file 0 to 1,000,000. The programs take at most 32,768 bytes."
+-- "Filter size 1 to 1,024. Cache size 1 to 4,096. Items in a file 0 to 1,000,000." "The programs take at most 32,768 bytes."
 pub record Paper : Type 0 where
   pub filter : (filterLeast ≡ 1) × (filterMost ≡ 1024)
   pub cache : (cacheLeast ≡ 1) × (cacheMost ≡ 4096)

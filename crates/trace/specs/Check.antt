@@ -60,6 +60,6 @@ unfoldable pub answer : Header → Verdict → Checked
 answer h Sound = Accepted h
 answer h (Faulty r) = Refused (row r)
 
--- "Check answers the four header values of the file checked", or the refusal.
+-- "Check, reduce and join answer the four header values of the file checked or written": the answer of check, or its refusal.
 unfoldable pub checked : List ℕ → Checked
 checked f = answer (header f) (verdict f)

@@ -1,9 +1,9 @@
 //! The promise on recordings as a check that answers what differed: a
 //! recording's files are reduced and joined, and the joined file's replay is
-//! held against LRU on the items of the recording, which never were in a file.
+//! held against LRU on the recording's own items, read from no file.
 
 use crate::frame::framed;
-use crate::recordings::{Part, Recording};
+use crate::recordings::{Portion, Recording};
 use crate::starts::Start;
 use reference::Run;
 use types::layout::{HEADER_BYTES, ITEM_BYTES, file_bytes, whole};
@@ -42,7 +42,7 @@ const UNWRITTEN: u64 = 0x0123_4567_89AB_CDEF;
 
 const NUMBERS_PER_EVENT: usize = 3;
 
-/// Both parts of the check. Answers what the replay of the join counted.
+/// Both halves of the check. Answers what the replay of the join counted.
 pub fn check(
     library: &dyn Library,
     recording: &Recording,
@@ -55,9 +55,9 @@ pub fn check(
 /// Reduces each file and joins them: in both bracketings to the same bytes,
 /// with the header that the recording's join has.
 pub fn joined(library: &dyn Library, recording: &Recording) -> Result<Vec<u8>, Difference> {
-    let reduced = |part| reduced(library, recording, part);
+    let reduced = |portion| reduced(library, recording, portion);
     let files: Vec<Vec<u8>> = recording
-        .parts
+        .portions
         .iter()
         .map(reduced)
         .collect::<Result<_, _>>()?;
@@ -88,12 +88,12 @@ pub fn joined(library: &dyn Library, recording: &Recording) -> Result<Vec<u8>, D
 fn reduced(
     library: &dyn Library,
     recording: &Recording,
-    part: &Part,
+    portion: &Portion,
 ) -> Result<Vec<u8>, Difference> {
-    let file = whole(&recording.items[part.items.clone()]);
+    let file = whole(&recording.items[portion.items.clone()]);
     let mut out = vec![0; file.len()];
     let answer = framed(&mut out, |out| {
-        library.reduce(&file, part.mode, part.filter, out)
+        library.reduce(&file, portion.mode, portion.filter, out)
     });
     let header = answer.map_err(|refusal| refused("reduce", refusal))?;
     out.truncate(file_bytes(header.items as usize));

@@ -11,7 +11,7 @@ const MOST_FILES: u64 = 8;
 
 /// One file of a recording.
 #[derive(Clone, Debug)]
-pub struct Part {
+pub struct Portion {
     pub items: Range<usize>,
     pub mode: u64,
     pub filter: u64,
@@ -20,7 +20,7 @@ pub struct Part {
 #[derive(Clone, Debug)]
 pub struct Recording {
     pub items: Vec<Item>,
-    pub parts: Vec<Part>,
+    pub portions: Vec<Portion>,
     pub trees: [Tree; 2],
 }
 
@@ -29,33 +29,33 @@ impl Recording {
     pub fn random(random: &mut Random, pool: &[u64]) -> Recording {
         let count = length(random);
         let items = traces::items(random, pool, count);
-        let parts = parts(random, count);
-        let mut tree = || Tree::random(random, 0..parts.len());
+        let portions = portions(random, count);
+        let mut tree = || Tree::random(random, 0..portions.len());
         let trees = [tree(), tree()];
         Recording {
             items,
-            parts,
+            portions,
             trees,
         }
     }
 
     pub fn largest_filter(&self) -> u64 {
-        let filters = self.parts.iter().map(|part| part.filter);
+        let filters = self.portions.iter().map(|portion| portion.filter);
         filters.max().expect("there is a file")
     }
 
     /// The kind of the joined file: no file is left whole.
     pub fn kind(&self) -> u64 {
-        let modes = self.parts.iter().map(|part| part.mode);
+        let modes = self.portions.iter().map(|portion| portion.mode);
         modes.max().expect("there is a file")
     }
 
     pub fn has_both_modes(&self) -> bool {
-        self.kind() == DEMAND && self.parts.iter().any(|part| part.mode != DEMAND)
+        self.kind() == DEMAND && self.portions.iter().any(|portion| portion.mode != DEMAND)
     }
 
     pub fn has_an_empty_file(&self) -> bool {
-        self.parts.iter().any(|part| part.items.is_empty())
+        self.portions.iter().any(|portion| portion.items.is_empty())
     }
 }
 
@@ -71,7 +71,7 @@ fn length(random: &mut Random) -> usize {
 }
 
 /// Cuts anywhere. Two cuts in one place leave an empty file between them.
-fn parts(random: &mut Random, count: usize) -> Vec<Part> {
+fn portions(random: &mut Random, count: usize) -> Vec<Portion> {
     let files = 1 + random.below(MOST_FILES);
     let mut ends: Vec<usize> = (1..files).map(|_| random.index(count + 1)).collect();
     ends.sort_unstable();
@@ -81,7 +81,7 @@ fn parts(random: &mut Random, count: usize) -> Vec<Part> {
     let largest = random.pick(&[1, 2, 3, 4, 5, 8, 8, 16, 40, 1024]);
     let mut start = 0;
     ends.into_iter()
-        .map(|end| Part {
+        .map(|end| Portion {
             items: std::mem::replace(&mut start, end)..end,
             mode: 1 + random.below(2),
             filter: 1 + random.below(largest),

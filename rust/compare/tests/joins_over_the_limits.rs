@@ -1,5 +1,5 @@
-//! Trees of joins whose sums go over a limit somewhere: refused 13 there, by
-//! both libraries, and the lent buffer stays as it was.
+//! Trees of joins whose sums are at a limit or over it: taken, or refused 13
+//! where they go over it, by both libraries, with the lent buffer as it was.
 
 use bindings::Proved;
 use compare::report::{say, say_seen};

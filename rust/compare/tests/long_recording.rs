@@ -4,7 +4,7 @@
 use bindings::Proved;
 use compare::Random;
 use compare::faithful::{joined, replays_as_recorded};
-use compare::recordings::{Part, Recording};
+use compare::recordings::{Portion, Recording};
 use compare::report::say;
 use compare::starts::Start;
 use compare::trees::Tree;
@@ -41,13 +41,13 @@ fn items(random: &mut Random, count: usize) -> Vec<Item> {
         .collect()
 }
 
-fn parts() -> Vec<Part> {
+fn portions() -> Vec<Portion> {
     let mut start = 0;
     FILES
         .iter()
         .map(|&(count, mode, filter)| {
             let end = start + count;
-            Part {
+            Portion {
                 items: std::mem::replace(&mut start, end)..end,
                 mode,
                 filter,
@@ -69,11 +69,11 @@ fn trees() -> [Tree; 2] {
 
 fn recording() -> Recording {
     let mut random = Random::new(Random::seed() ^ 10);
-    let parts = parts();
-    let count = parts.last().expect("there are files").items.end;
+    let portions = portions();
+    let count = portions.last().expect("there are files").items.end;
     Recording {
         items: items(&mut random, count),
-        parts,
+        portions,
         trees: trees(),
     }
 }

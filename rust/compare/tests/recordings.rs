@@ -86,8 +86,8 @@ fn replay_as_recorded(name: &str, library: &dyn Library) {
         match check(library, &recording, &start) {
             Ok(replayed) => met.count(&recording, &start, &replayed),
             Err(difference) => panic!(
-                "seed {seed} recording {number}: {difference:?}: parts {:?} trees {:?} {start:?}",
-                recording.parts, recording.trees
+                "seed {seed} recording {number}: {difference:?}: portions {:?} trees {:?} {start:?}",
+                recording.portions, recording.trees
             ),
         }
     }
