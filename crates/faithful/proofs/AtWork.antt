@@ -1,9 +1,9 @@
--- Demand 3 at work on trace T: its clauses are met by computation, and what it promises is held to the literal fetches and residents. Assumes nothing.
+-- Demand 3 at work on trace T: its premises are met, and what it promises is held to the literal fetches and residents. Assumes nothing.
 use Prim.Native.Nat.{ℕ}
 use mathlib.Core.Path.{_≡_, refl, ap, _∙_}
-use mathlib.Core.List.{List, [], _∷_}
+use mathlib.Core.List.{List, [], _∷_, map}
 use native.Mathlib.Omega.{arith}
-use lib.ListN.{take, drop, replicate}
+use lib.ListN.{replicate}
 use Rattle.pages.specs.Rows.{flat, over}
 use Rattle.pages.specs.Pages.{has, add}
 use Rattle.trace.specs.Bytes.{number, numberAt, bytes}
@@ -11,22 +11,28 @@ use Rattle.trace.specs.Layout.{field, encodeHeader, encodeItem, encodeItems, en
 use Rattle.trace.specs.Rules.{allowed}
 use Rattle.trace.specs.Verdict.{first, _then_}
 use Rattle.trace.specs.Check.{isField, itemsVerdict, verdict, answer, checked}
+use Rattle.trace.specs.Promises.{IsFile}
 use Rattle.trace.specs.Examples.{T, whole, fileT}
 use Rattle.trace.proofs.Accepted.{is-determined}
 use Rattle.trace.proofs.Octets.{octets-file}
 use Rattle.slim.specs.Epochs.{pages, cut, epochs}
 use Rattle.slim.specs.Keep.{isFirst, isLast, phase, keeps, kept, reduce}
-use Rattle.slim.specs.Reduce.{isMode, modeOf, keptOf, reducedHeader, reducedFile}
+use Rattle.slim.specs.Reduce.{modeOf, keptOf, reducedHeader, reducedFile}
 use Rattle.join.specs.Join.{joinedKind, joinedHeader, joinedFile}
 use Rattle.join.specs.Trees.{files, joined}
 use Rattle.lru.specs.Replay.{cacheAfter, eventsAfter}
-use Rattle.faithful.specs.Demand3.{IsRecording, IsCut, short, IsJoinOf, IsCache, Faithful}
-use Rattle.faithful.specs.Corollaries.{SameReplay}
+use Rattle.faithful.specs.Parts.{recorded}
+use Rattle.faithful.specs.Demand3.{IsRecording, Portion, IsCut, short, IsJoinOf, IsCache, Faithful}
+use Rattle.faithful.specs.Corollaries.{portionOf, SameReplay}
 use Rattle.faithful.specs.AtWork.{three, leftFirst, rightFirst, lentCache, lentEvents, fetches-of-T, residents-of-T}
 use Rattle.faithful.proofs.Files.{demand-3}
-use Rattle.faithful.proofs.Corollaries.{any-bracketing, like-the-whole-file}
+use Rattle.faithful.proofs.Corollaries.{cut-anywhere, any-bracketing, like-the-whole-file}
 
--- ---- the clauses
+-- The three files, and how each is reduced.
+abbrev portions : List Portion
+portions = map portionOf three
+
+-- ---- the premises
 
 -- T is what its own file says, so it keeps the rules.
 recording : IsRecording T
@@ -35,38 +41,35 @@ recording =
     let a = is-determined fileT (whole 12) (octets-file (whole 12) T) refl .keeps-rules in
     record { items-fit = a .items-fit; rising = a .rising }
 
-cut-in-three : IsCut T three
-unfolding checked answer verdict first _then_ itemsVerdict isField allowed isMode flat encode encodeHeader encodeItems encodeItem field bytes header items itemsOf item numberAt number
-cut-in-three = record {
-  portions = (
-    record { is-file = record { bytes = octets-file (whole 5) (take 5 T); accepted = refl }; kind-0 = refl; either-mode = refl; least = omega arith; most = omega arith },
-    (
-      record { is-file = record { bytes = octets-file (whole 3) (take 3 (drop 5 T)); accepted = refl }; kind-0 = refl; either-mode = refl; least = omega arith; most = omega arith },
-      (
-        record { is-file = record { bytes = octets-file (whole 4) (drop 8 T); accepted = refl }; kind-0 = refl; either-mode = refl; least = omega arith; most = omega arith },
-        tt,
-      ),
-    ),
-  );
-  consecutive = refl;
-}
+-- It is cut into three parts, each of which fits a file.
+cut-in-three : IsCut T portions
+unfolding flat recorded
+cut-in-three = cut-anywhere three recording (omega arith)
 
-joined-in-order : IsJoinOf three leftFirst
+joined-in-order : IsJoinOf portions leftFirst
 unfolding files joined short joinedFile joinedHeader joinedKind reducedFile reducedHeader keptOf modeOf reduce epochs cut kept keeps phase isFirst isLast pages has add flat
     encode encodeHeader encodeItems encodeItem field bytes header items itemsOf item numberAt number
 joined-in-order = record { in-order = refl; within = omega arith }
 
-cache-of-three : IsCache three 3 lentCache 3
+cache-of-three : IsCache portions 3 lentCache 3
 unfolding has
-cache-of-three = record { least = omega arith; most = omega arith; filters = omega arith; places = omega arith; fits = omega arith; distinct = (refl, (refl, (refl, tt))); free = refl }
+cache-of-three = record {
+  least = omega arith;
+  most = omega arith;
+  filters = omega arith;
+  places = omega arith;
+  fits = omega arith;
+  distinct = (refl, (refl, (refl, tt)));
+  free = refl;
+}
 
 -- ---- what is promised
 
 -- From that start, with room for the join alone, none of the three reductions and neither join is refused, and the join replays as T.
-pub at-work : Faithful T three leftFirst 3 lentCache 3 lentEvents
+pub at-work : Faithful T portions leftFirst 3 lentCache 3 lentEvents
 unfolding joined short joinedFile joinedHeader joinedKind reducedFile reducedHeader keptOf modeOf reduce epochs cut kept keeps phase isFirst isLast pages has add flat
     encode encodeHeader encodeItems encodeItem field bytes header items itemsOf item numberAt number
-at-work = demand-3 T recording three cut-in-three leftFirst joined-in-order 3 lentCache 3 cache-of-three lentEvents (omega arith)
+at-work = demand-3 T recording portions cut-in-three leftFirst joined-in-order 3 lentCache 3 cache-of-three lentEvents (omega arith)
 
 -- So it leaves T's three fetches in the events buffer, and T's residents in the cache buffer.
 pub fetches-left : eventsAfter (joined leftFirst) 3 lentCache 3 lentEvents ≡ 40 ∷ 2 ∷ 4 ∷ 60 ∷ 3 ∷ 9 ∷ 80 ∷ 4 ∷ 2 ∷ replicate 21 7
@@ -78,13 +81,13 @@ unfolding over
 residents-left = at-work .replays .residents ∙ ap (λ (w : List ℕ). over w lentCache) residents-of-T
 
 -- In the other bracketing the joins are within the limits too, and come to the same file.
-pub other-bracketing : IsJoinOf three rightFirst × (joined leftFirst ≡ joined rightFirst)
+pub other-bracketing : IsJoinOf portions rightFirst × (joined leftFirst ≡ joined rightFirst)
 unfolding files
-other-bracketing = any-bracketing T recording three cut-in-three leftFirst rightFirst joined-in-order refl
+other-bracketing = any-bracketing T recording portions cut-in-three leftFirst rightFirst joined-in-order refl
 
 -- T is itself a file, so the join replays like that file, in buffers with room for it.
 pub like-T : SameReplay (joined rightFirst) fileT 3 lentCache 3 (replicate 36 7)
 unfolding files checked answer verdict first _then_ itemsVerdict isField allowed encode encodeHeader encodeItems encodeItem field bytes header items itemsOf item numberAt number
 like-T =
-    like-the-whole-file fileT (record { bytes = octets-file (whole 12) T; accepted = refl }) refl three cut-in-three rightFirst refl .1 3 lentCache 3 cache-of-three (replicate 36 7) .1
-    (omega arith)
+    let f : IsFile fileT = record { bytes = octets-file (whole 12) T; accepted = refl } in
+    like-the-whole-file fileT f refl portions cut-in-three rightFirst refl .1 3 lentCache 3 cache-of-three (replicate 36 7) .1 (omega arith)

@@ -8,12 +8,13 @@ use lib.ListN.{length}
 use Rattle.limits.proofs.Numbers.{itemsMost}
 use Rattle.pages.specs.Rows.{flat}
 use Rattle.trace.specs.Layout.{Trace, header, items, decode}
-use Rattle.trace.specs.Rules.{ItemsFit, Rising, Allowed}
+use Rattle.trace.specs.Rules.{ItemFits, ItemsFit, Rising, Allowed}
 use Rattle.trace.specs.Promises.{IsFile}
+use Rattle.trace.specs.Examples.{whole}
 use Rattle.trace.specs.declared.Item.{Item}
-use Rattle.trace.specs.declared.Header.{Header}
+use Rattle.pages.proofs.Rows.{all-parts}
 use Rattle.trace.proofs.Allowed.{facts-allowed}
-use Rattle.trace.proofs.Append.{fit-parts, rising-parts}
+use Rattle.trace.proofs.Append.{rising-parts}
 use Rattle.trace.proofs.Accepted.{accepted-header, accepted-count, accepted-facts, accepted-rising}
 use Rattle.trace.proofs.Octets.{octets-file}
 use Rattle.trace.proofs.RoundTrip.{reads-back, is-taken}
@@ -31,9 +32,9 @@ use Rattle.faithful.proofs.Files.{taken, replays-as, recording-is, are-
 -- ---- cut anywhere
 
 -- Items of a recording, no more than a file can have, keep the rules of a whole file.
-whole-allowed : (u : List Item) → ItemsFit u → Rising 0 u → length u ≤ itemsMost → Allowed (record { kind = 0; filter = 0; references = length u; items = length u }) u
+whole-allowed : (u : List Item) → ItemsFit u → Rising 0 u → length u ≤ itemsMost → Allowed (whole (length u)) u
 whole-allowed u f r l = record {
-  header-allowed = facts-allowed (record { kind = 0; filter = 0; references = length u; items = length u }) (record {
+  header-allowed = facts-allowed (whole (length u)) (record {
     few = l;
     within = omega arith;
     kinds = omega arith;
@@ -53,7 +54,7 @@ mode-is FastSlim = refl
 mode-is Demand = refl
 
 module _ (p : Part) (f : ItemsFit (p .items)) (r : Rising 0 (p .items)) (a : FitsAFile p) where
-  says : Allowed (record { kind = 0; filter = 0; references = length (p .items); items = length (p .items) }) (p .items)
+  says : Allowed (whole (length (p .items))) (p .items)
   says = whole-allowed (p .items) f r (a .few)
 
   -- A part's file says its items,
@@ -64,7 +65,7 @@ module _ (p : Part) (f : ItemsFit (p .items)) (r : Rising 0 (p .items)) (a : Fit
   -- and is a portion.
   part-portion : IsPortion (portionOf p)
   part-portion =
-      let w : Header = record { kind = 0; filter = 0; references = length (p .items); items = length (p .items) } in
+      let w = whole (length (p .items)) in
       let t = is-taken w (p .items) says in
       let h = accepted-header (wholeFile (p .items)) w t in
       record {
@@ -80,7 +81,7 @@ pub cut-anywhere : CutAnywhere
 unfolding flat recorded
 cut-anywhere [] r a = record { portions = tt; consecutive = refl }
 cut-anywhere (p ∷ ps) r a =
-    let (f, g) = fit-parts (p .items) (recorded ps) (r .items-fit) in
+    let (f, g) = all-parts ItemFits (p .items) (recorded ps) (r .items-fit) in
     let (u, v) = rising-parts 0 (p .items) (recorded ps) (r .rising) in
     let c = cut-anywhere ps (record { items-fit = g; rising = v }) (a .1) in
     record { portions = (part-portion p f u (a .0), c .portions); consecutive = rw (part-items p f u (a .0), c .consecutive) }

@@ -4,7 +4,7 @@ use mathlib.Core.Path.{_≡_, refl, sym}
 use mathlib.Core.List.{List, [], _∷_, map}
 use native.Mathlib.Omega.{arith}
 use lib.ListN.{length, length-append}
-use Rattle.pages.specs.Rows.{flat}
+use Rattle.pages.specs.Rows.{All, flat}
 use Rattle.trace.specs.Layout.{header, items}
 use Rattle.trace.specs.Rules.{Rising}
 use Rattle.trace.specs.Promises.{IsFile}
@@ -20,9 +20,9 @@ use Rattle.slim.proofs.Kept.{sub-append, kept-in-order}
 use Rattle.slim.proofs.Order.{sub-rising, reduce-length}
 use Rattle.slim.proofs.Reducing.{reducible-sound, reduce-written, reduce-file}
 use Rattle.slim.proofs.Accepted.{writes-reduced}
-use Rattle.join.specs.Trees.{AreFiles, itemsOfAll, largest, total, headerOfAll}
+use Rattle.join.specs.Trees.{itemsOfAll, largest, total, headerOfAll}
 use Rattle.faithful.specs.Parts.{Part, recorded, reduced, Sizes}
-use Rattle.faithful.specs.Demand3.{Portion, IsPortion, ArePortions, short, AllAtMost, Reduces, AllReduce}
+use Rattle.faithful.specs.Demand3.{Portion, IsPortion, short, AllAtMost, Reduces}
 
 -- What a portion is on items.
 pub part : Portion → Part
@@ -59,16 +59,16 @@ module _ (p : Portion) (a : IsPortion p) where
 
 -- ---- all of them
 
-pub all-reduce : (ps : List Portion) → ArePortions ps → AllReduce ps
+pub all-reduce : (ps : List Portion) → All IsPortion ps → All Reduces ps
 all-reduce [] a = tt
 all-reduce (p ∷ ps) a = (reduces p (a .0), all-reduce ps (a .1))
 
-pub short-files : (ps : List Portion) → ArePortions ps → AreFiles (map short ps)
+pub short-files : (ps : List Portion) → All IsPortion ps → All IsFile (map short ps)
 short-files [] a = tt
 short-files (p ∷ ps) a = (short-is p (a .0) .0, short-files ps (a .1))
 
 -- Their items are the parts reduced, one after the other.
-pub short-items : (ps : List Portion) → ArePortions ps → itemsOfAll (map short ps) ≡ reduced (map part ps)
+pub short-items : (ps : List Portion) → All IsPortion ps → itemsOfAll (map short ps) ≡ reduced (map part ps)
 unfolding flat part reduced
 short-items [] a = refl
 short-items (p ∷ ps) a = rw (short-is p (a .0) .2, short-items ps (a .1))
@@ -91,13 +91,13 @@ reduced-rising ps r = sub-rising (reduced-in-order ps) 0 r
 
 -- ---- filters
 
-pub portion-sizes : (K : ℕ) (ps : List Portion) → ArePortions ps → AllAtMost K ps → Sizes K (map part ps)
+pub portion-sizes : (K : ℕ) (ps : List Portion) → All IsPortion ps → AllAtMost K ps → Sizes K (map part ps)
 unfolding part
 portion-sizes K [] a l = tt
-portion-sizes K (p ∷ ps) a l = (a .0 .least, l .0, portion-sizes K ps (a .1) (l .1))
+portion-sizes K (p ∷ ps) a l = ((a .0 .least, l .0), portion-sizes K ps (a .1) (l .1))
 
 -- The largest filter of the reduced files is at most K.
-pub filter-at-most : (K : ℕ) (ps : List Portion) → ArePortions ps → AllAtMost K ps → headerOfAll (map short ps) .filter ≤ K
+pub filter-at-most : (K : ℕ) (ps : List Portion) → All IsPortion ps → AllAtMost K ps → headerOfAll (map short ps) .filter ≤ K
 unfolding headerOfAll largest reducedHeader
 filter-at-most K [] a l = omega arith
 filter-at-most K (p ∷ ps) a l = rw (short-is p (a .0) .1) (omega (arith, l .0, filter-at-most K ps (a .1) (l .1)))
@@ -105,14 +105,14 @@ filter-at-most K (p ∷ ps) a l = rw (short-is p (a .0) .1) (omega (arith, l .0,
 -- ---- counts
 
 -- The reduced files together have no more items than the files have,
-pub items-at-most : (ps : List Portion) → ArePortions ps → headerOfAll (map short ps) .items ≤ length (recorded (map part ps))
+pub items-at-most : (ps : List Portion) → All IsPortion ps → headerOfAll (map short ps) .items ≤ length (recorded (map part ps))
 unfolding headerOfAll total reducedHeader keptOf flat part recorded
 items-at-most [] a = omega arith
 items-at-most (p ∷ ps) a =
     rw (short-is p (a .0) .1, length-append) (omega (arith, reduce-length (modeOf (p .mode)) (p .size) (items (p .file)), items-at-most ps (a .1)))
 
 -- and as many references.
-pub references-are : (ps : List Portion) → ArePortions ps → headerOfAll (map short ps) .references ≡ length (recorded (map part ps))
+pub references-are : (ps : List Portion) → All IsPortion ps → headerOfAll (map short ps) .references ≡ length (recorded (map part ps))
 unfolding headerOfAll total reducedHeader flat part recorded
 references-are [] a = refl
 references-are (p ∷ ps) a =

@@ -1,5 +1,5 @@
--- Demand 3 on trace T: cut in three, each file reduced in its own way, joined in both bracketings, and replayed from a start with pages. Set up here; what demand 3 promises of it is in
--- `proofs/AtWork.antt`. Assumes nothing.
+-- Demand 3 on trace T: cut in three, each file reduced in its own way, joined in both bracketings, and replayed from a start with pages.
+-- Set up here; what demand 3 promises of it is in `proofs/AtWork.antt`. Assumes nothing.
 use Prim.Native.Nat.{ℕ}
 use mathlib.Core.Path.{_≡_, refl}
 use mathlib.Core.List.{List, [], _∷_, map}
@@ -8,7 +8,7 @@ use Rattle.pages.specs.Rows.{flat}
 use Rattle.pages.specs.Pages.{has, add, remove}
 use Rattle.trace.specs.Bytes.{number, numberAt, bytes}
 use Rattle.trace.specs.Layout.{field, encodeHeader, encodeItem, encodeItems, encode, header, item, itemsOf, items}
-use Rattle.trace.specs.Examples.{T, whole}
+use Rattle.trace.specs.Examples.{T}
 use Rattle.trace.specs.declared.Item.{Item}
 use Rattle.slim.specs.Epochs.{pages, cut, epochs}
 use Rattle.slim.specs.Keep.{isFirst, isLast, phase, keeps, kept, reduce}
@@ -17,27 +17,34 @@ use Rattle.join.specs.Join.{joinedKind, joinedHeader, joinedFile}
 use Rattle.join.specs.Trees.{Tree, joined}
 use Rattle.join.specs.Trees.Tree.{one, both}
 use Rattle.lru.specs.Lru.{hit, fetch, step, _then_, replay, word, words}
-use Rattle.faithful.specs.Demand3.{Portion, short}
+use Rattle.slim.specs.declared.Mode.the-variants.{FastSlim, Demand}
+use Rattle.faithful.specs.Parts.{Part}
+use Rattle.faithful.specs.Demand3.{short}
+use Rattle.faithful.specs.Corollaries.{portionOf}
 
 -- T up to time 50, from 60 to 80, and from 90 on; by FastSlim-Demand, FastSlim and FastSlim-Demand, with filters of 2, 3 and 1 pages.
-abbrev pub beginning : Portion
-beginning = record { file = encode (whole 5) (take 5 T); mode = 2; size = 2 }
+abbrev pub beginning : Part
+beginning = record { mode = Demand; size = 2; items = take 5 T }
 
-abbrev pub middle : Portion
-middle = record { file = encode (whole 3) (take 3 (drop 5 T)); mode = 1; size = 3 }
+abbrev pub middle : Part
+middle = record { mode = FastSlim; size = 3; items = take 3 (drop 5 T) }
 
-abbrev pub end : Portion
-end = record { file = encode (whole 4) (drop 8 T); mode = 2; size = 1 }
+abbrev pub end : Part
+end = record { mode = Demand; size = 1; items = drop 8 T }
 
-abbrev pub three : List Portion
+abbrev pub three : List Part
 three = beginning ∷ middle ∷ end ∷ []
+
+-- The reduced file of a part.
+abbrev pub shortOf : Part → List ℕ
+shortOf p = short (portionOf p)
 
 -- The first two joined first, and the last two.
 abbrev pub leftFirst : Tree
-leftFirst = both (both (one (short beginning)) (one (short middle))) (one (short end))
+leftFirst = both (both (one (shortOf beginning)) (one (shortOf middle))) (one (shortOf end))
 
 abbrev pub rightFirst : Tree
-rightFirst = both (one (short beginning)) (both (one (short middle)) (one (short end)))
+rightFirst = both (one (shortOf beginning)) (both (one (shortOf middle)) (one (shortOf end)))
 
 -- A buffer of four places for a cache of three pages, which starts with pages 9, 1 and 4; and an events buffer with room for the join alone, 30 places for its 10 items.
 abbrev pub lentCache : List ℕ
@@ -46,22 +53,13 @@ lentCache = 9 ∷ 1 ∷ 4 ∷ 0 ∷ []
 abbrev pub lentEvents : List ℕ
 lentEvents = replicate 30 7
 
--- What is kept of the three files: all but times 20 and 30.
-kept-of-three : map (λ (i : Item). i .time) (items (joined leftFirst)) ≡ 10 ∷ 40 ∷ 50 ∷ 60 ∷ 70 ∷ 80 ∷ 90 ∷ 100 ∷ 110 ∷ 120 ∷ []
+-- What both bracketings come to is one file: of kind 2, with the largest filter, the recording's 12 references, and all its items but those at 20 and 30.
+both-ways : (joined leftFirst ≡ joined rightFirst)
+    × (header (joined leftFirst) ≡ record { kind = 2; filter = 3; references = 12; items = 10 })
+    × (map (λ (i : Item). i .time) (items (joined leftFirst)) ≡ 10 ∷ 40 ∷ 50 ∷ 60 ∷ 70 ∷ 80 ∷ 90 ∷ 100 ∷ 110 ∷ 120 ∷ [])
 unfolding joined short joinedFile joinedHeader joinedKind reducedFile reducedHeader keptOf modeOf reduce epochs cut kept keeps phase isFirst isLast pages has add flat
     encode encodeHeader encodeItems encodeItem field bytes header items itemsOf item numberAt number
-kept-of-three = refl
-
--- Both bracketings come to one file: of kind 2, with the largest filter, the recording's 12 references, and 10 items.
-both-ways : joined leftFirst ≡ joined rightFirst
-unfolding joined short joinedFile joinedHeader joinedKind reducedFile reducedHeader keptOf modeOf reduce epochs cut kept keeps phase isFirst isLast pages has add flat
-    encode encodeHeader encodeItems encodeItem field bytes header items itemsOf item numberAt number
-both-ways = refl
-
-header-of-three : header (joined leftFirst) ≡ record { kind = 2; filter = 3; references = 12; items = 10 }
-unfolding joined short joinedFile joinedHeader joinedKind reducedFile reducedHeader keptOf modeOf reduce epochs cut kept keeps phase isFirst isLast pages has add flat
-    encode encodeHeader encodeItems encodeItem field bytes header items itemsOf item numberAt number
-header-of-three = refl
+both-ways = (refl, refl, refl)
 
 -- What LRU does with T from that start: page 1 is there; 2 evicts 4, 3 evicts 9, 4 evicts 2; at the end 1, 3 and 4 are there.
 pub fetches-of-T : words ((replay 3 (take 3 lentCache) T) .events) ≡ 40 ∷ 2 ∷ 4 ∷ 60 ∷ 3 ∷ 9 ∷ 80 ∷ 4 ∷ 2 ∷ []

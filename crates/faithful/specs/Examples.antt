@@ -11,7 +11,7 @@ use Rattle.trace.specs.Rules.{allowed}
 use Rattle.trace.specs.Verdict.{first}
 use Rattle.trace.specs.Verdict as verdicts
 use Rattle.trace.specs.Check.{isField, itemsVerdict, verdict}
-use Rattle.trace.specs.Examples.{_at_, T, whole, fileT}
+use Rattle.trace.specs.Examples.{_at_, T, fileT}
 use Rattle.trace.specs.declared.Item.{Item}
 use Rattle.slim.specs.Epochs.{pages, cut, epochs}
 use Rattle.slim.specs.Keep.{isFirst, isLast, phase, keeps, kept, reduce}
@@ -26,6 +26,7 @@ use Rattle.lru.specs.Tally.{isFetch, isEviction, tallied, tally, perMillion}
 use Rattle.lru.specs.Replay.{twice, badStart, replayVerdict, replayOf, summaryOf, replayAnswer, cacheAfter, eventsAfter}
 use Rattle.lru.specs.declared.Replayed.{Replayed}
 use Rattle.lru.specs.declared.Replayed.the-variants as replays
+use Rattle.faithful.specs.Corollaries.{wholeFile as file}
 
 -- One example of the paper: what the definitions compute, and what the paper says.
 pub record Example : Type 0 where
@@ -37,10 +38,6 @@ abbrev pub _says_ : List ℕ → List ℕ → Example
 found says paper = record { found = found; paper = paper }
 
 -- ---- files
-
--- Items as a whole file.
-abbrev pub file : List Item → List ℕ
-file t = encode (whole (length t)) t
 
 -- A file reduced by FastSlim-Demand, and by FastSlim, with the filter size B.
 abbrev pub demand : ℕ → List ℕ → List ℕ

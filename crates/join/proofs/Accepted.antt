@@ -8,15 +8,15 @@ use lib.ListN.{length-append}
 use lib.Dec.{eqb}
 use borrow.Author.Tests.{eqb-true, eqb-false}
 use Rattle.limits.proofs.Numbers.{filterLeast}
+use Rattle.pages.proofs.Rows.{all-append}
 use Rattle.pages.proofs.Choice.{split, and-true}
 use Rattle.trace.specs.Layout.{Trace, header, items, decode}
-use Rattle.trace.specs.Rules.{Allowed}
+use Rattle.trace.specs.Rules.{ItemFits, Allowed}
 use Rattle.trace.specs.Check.{verdict}
 use Rattle.trace.specs.Promises.{AreBytes, Says}
 use Rattle.trace.specs.declared.Header.{Header}
 use Rattle.trace.specs.declared.Verdict.the-variants.{Sound}
 use Rattle.trace.proofs.Allowed.{Facts, allowed-facts, facts-allowed, filter-most}
-use Rattle.trace.proofs.Append.{fit-append}
 use Rattle.trace.proofs.Checking.{check-sound}
 use Rattle.trace.proofs.Accepted.{is-determined}
 use Rattle.trace.proofs.RoundTrip.{reads-back, is-taken}
@@ -104,7 +104,7 @@ joined-allowed f g room x y e =
       header-allowed = facts-allowed (joinedHeader f g) (facts-joined f g v w a);
       references-fit = unfold joinedHeader in omega (arith, a .references-few);
       counted = unfold joinedHeader in rw length-append (omega (arith, p .counted, q .counted));
-      items-fit = fit-append (items f) (items g) (p .items-fit) (q .items-fit);
+      items-fit = all-append ItemFits (items f) (items g) (p .items-fit) (q .items-fit);
       rising = rising-joined f g (p .rising) (q .rising) (a .meets);
     }
 

@@ -7,11 +7,11 @@ use native.Mathlib.Omega.{arith}
 use lib.ListN.{length, length-append}
 use lib.Seq.{sets}
 use lib.Dec.{leb, ltb}
-use borrow.Author.Tests.{leb-true, le-leb, ltb-false, le-ltb, not-false}
+use borrow.Author.Tests.{leb-true, ltb-false, le-ltb, not-false}
 use Rattle.limits.specs.Sizes.{between}
 use Rattle.limits.proofs.Numbers.{itemsLeast, itemsMost}
 use Rattle.pages.specs.Rows.{over}
-use Rattle.pages.proofs.Choice.{and-true, and-both, or-false}
+use Rattle.pages.proofs.Choice.{and-true, or-false}
 use Rattle.trace.specs.Layout.{header, items, itemsFrom, encodeHeader, encodeItems}
 use Rattle.trace.specs.Refusals.{row, ofSecond}
 use Rattle.trace.specs.Verdict.{first}
@@ -20,6 +20,7 @@ use Rattle.trace.specs.declared.Header.{Header}
 use Rattle.trace.specs.declared.Refusal.{Refusal}
 use Rattle.trace.specs.declared.Verdict.{Verdict}
 use Rattle.trace.specs.declared.Verdict.the-variants.{Sound, Faulty}
+use Rattle.trace.proofs.Allowed.{le-between}
 use Rattle.trace.proofs.Sound.{first-passed, passed-first}
 use Rattle.trace.proofs.Checking.{sound-file}
 use Rattle.trace.proofs.Items.{items-from, length-from}
@@ -46,18 +47,29 @@ not-both r e =
     let z : _≡_ {A = ℕ} 0 1 = cc in
     omega arith
 
--- A join passes only where each of three verdicts is sound.
-all-sound : (u v w : Verdict)
-    → elim u [ Faulty r ↦ Failed (row r) | Sound ↦ elim v [ Faulty r ↦ Failed (ofSecond (row r)) | Sound ↦ elim w [ Faulty r ↦ Failed (row r) | Sound ↦ Passed ] ] ] ≡ Passed
-    → (u ≡ Sound) × (v ≡ Sound) × (w ≡ Sound)
+-- What three verdicts come to, one after the other: the first file's, the second's and the join's own.
+abbrev inTurn : Verdict → Verdict → Verdict → Judged
+inTurn u v w =
+    elim u [
+      | Faulty r ↦ Failed (row r)
+      | Sound ↦ elim v [
+        | Faulty r ↦ Failed (ofSecond (row r))
+        | Sound ↦ elim w [
+          | Faulty r ↦ Failed (row r)
+          | Sound ↦ Passed
+        ]
+      ]
+    ]
+
+-- A join passes only where each of the three is sound.
+all-sound : (u v w : Verdict) → inTurn u v w ≡ Passed → (u ≡ Sound) × (v ≡ Sound) × (w ≡ Sound)
 all-sound Sound Sound Sound e = (refl, refl, refl)
 all-sound Sound Sound (Faulty r) e = absurd (not-both (row r) e)
 all-sound Sound (Faulty r) w e = absurd (not-both (ofSecond (row r)) e)
 all-sound (Faulty r) v w e = absurd (not-both (row r) e)
 
 -- And where each is, it passes.
-sound-all : (u v w : Verdict) → u ≡ Sound → v ≡ Sound → w ≡ Sound
-    → elim u [ Faulty r ↦ Failed (row r) | Sound ↦ elim v [ Faulty r ↦ Failed (ofSecond (row r)) | Sound ↦ elim w [ Faulty r ↦ Failed (row r) | Sound ↦ Passed ] ] ] ≡ Passed
+sound-all : (u v w : Verdict) → u ≡ Sound → v ≡ Sound → w ≡ Sound → inTurn u v w ≡ Passed
 sound-all u v w p q r = rw (p, q, r)
 
 -- The sizes that are not too large.
@@ -91,7 +103,7 @@ pub joinable-passed : (f g : List ℕ) (room : ℕ) → Joinable f g room → ju
 unfolding judged joinedHeader tooLarge
 joinable-passed f g room a =
     let n = header f .items + header g .items in
-    let few : between itemsLeast itemsMost n ≡ true = and-both (leb itemsLeast n) (leb n itemsMost) (le-leb itemsLeast n (omega arith)) (le-leb n itemsMost (a .few)) in
+    let few : between itemsLeast itemsMost n ≡ true = le-between itemsLeast itemsMost n (omega arith) (a .few) in
     let large : tooLarge f g ≡ false = rw few (le-ltb (2 ^ 32 - 1) (header f .references + header g .references) (a .references-few)) in
     let own : first (joinTests f g room) ≡ Sound = passed-first (joinTests f g room) (search le-ltb) in
     sound-all (verdict f) (verdict g) (first (joinTests f g room)) (a .first-sound) (a .second-sound) own

@@ -1,11 +1,11 @@
 -- Trees of joins: none is refused within the limits, and what one comes to is the same in any bracketing. Assumes nothing.
 use Prim.Native.Nat.{ℕ, _+_, _*_, _≤_}
 use mathlib.Core.Path.{_≡_, refl, sym, _∙_}
-use mathlib.Core.List.{List, [], _∷_, _++_, map, map-append}
+use mathlib.Core.List.{List, _++_, map, map-append}
 use native.Mathlib.Omega.{arith}
 use lib.ListN.{length}
 use Rattle.limits.proofs.Numbers.{itemsMost}
-use Rattle.pages.proofs.Rows.{flat-append, flat-one}
+use Rattle.pages.proofs.Rows.{all-parts, flat-append, flat-one}
 use Rattle.trace.specs.Layout.{header, items}
 use Rattle.trace.specs.Rules.{Rising}
 use Rattle.trace.specs.Promises.{IsFile}
@@ -14,7 +14,7 @@ use Rattle.trace.proofs.Append.{rising-parts}
 use Rattle.trace.proofs.Checking.{accepted-verdict}
 use Rattle.trace.proofs.Octets.{octets-file}
 use Rattle.join.specs.Join.{joinedHeader, joinedFile, judged}
-use Rattle.join.specs.Trees.{Tree, files, joined, AreFiles, itemsOfAll, SumsFit, Joins, headerOfAll, IsJoinedTree, JoinsTrees, SumsAreEnough, JoinsAssociate}
+use Rattle.join.specs.Trees.{Tree, files, joined, itemsOfAll, SumsFit, Joins, headerOfAll, IsJoinedTree, JoinsTrees, SumsAreEnough, JoinsAssociate}
 use Rattle.join.specs.Trees.Tree.{one, both}
 use Rattle.join.specs.declared.Judged.the-variants.{Passed}
 use Rattle.join.proofs.Joining.{joinable-passed, join-written, join-file}
@@ -61,10 +61,6 @@ module _ (f g : List ℕ) (a : IsFile f) (b : IsFile g) (r : Rising 0 (items f +
 
 -- ---- rows of files
 
-files-parts : (fs gs : List (List ℕ)) → AreFiles (fs ++ gs) → AreFiles fs × AreFiles gs
-files-parts [] gs a = (tt, a)
-files-parts (f ∷ fs) gs a = let (p, q) = files-parts fs gs (a .1) in ((a .0, p), q)
-
 items-both : (fs gs : List (List ℕ)) → itemsOfAll (fs ++ gs) ≡ itemsOfAll fs ++ itemsOfAll gs
 items-both fs gs = rw (map-append items fs gs, flat-append (map items fs) (map items gs))
 
@@ -101,7 +97,7 @@ pub joins-trees : JoinsTrees
 unfolding files
 joins-trees (one f) a up w = tree-one f (a .0)
 joins-trees (both l r) a up w =
-    let (p, q) = files-parts (files l) (files r) a in
+    let (p, q) = all-parts IsFile (files l) (files r) a in
     let (u, v) = rising-parts 0 (itemsOfAll (files l)) (itemsOfAll (files r)) (rw (items-both (files l) (files r)) at up) in
     tree-both l r (joins-trees l p u (w .1)) (joins-trees r q v (w .2)) up (w .0)
 
@@ -110,7 +106,7 @@ pub sums-enough : SumsAreEnough
 unfolding files
 sums-enough (one f) a up n m = tt
 sums-enough (both l r) a up n m =
-    let (p, q) = files-parts (files l) (files r) a in
+    let (p, q) = all-parts IsFile (files l) (files r) a in
     let (u, v) = rising-parts 0 (itemsOfAll (files l)) (itemsOfAll (files r)) (rw (items-both (files l) (files r)) at up) in
     let i = items-together (files l) (files r) in
     let j = references-together (files l) (files r) in
@@ -131,4 +127,5 @@ joins-associate s t e a up w =
     let x = sums-enough t (rw e at a) (rw e at up) (rw (← h) few) (rw (← h) (omega arith)) in
     let k = joins-trees t (rw e at a) (rw e at up) x in
     let same : header (joined t) ≡ header f = k .header-is ∙ sym h in
-    (x, same-file f (joined t) (header f) (j .is-file .bytes) (k .is-file .bytes) (j .is-file .accepted) (rw same at (k .is-file .accepted)) (j .items-are ∙ rw e (sym (k .items-are))))
+    let items-same : items f ≡ items (joined t) = j .items-are ∙ rw e (sym (k .items-are)) in
+    (x, same-file f (joined t) (header f) (j .is-file .bytes) (k .is-file .bytes) (j .is-file .accepted) (rw same at (k .is-file .accepted)) items-same)

@@ -49,7 +49,12 @@ abbrev together : List ℕ
 together = file 2 8 14 (1 at 10 ∷ 2 at 20 ∷ 3 at 20 ∷ [])
 
 -- "References added; the larger filter size", whichever file has it; and the answer is the header of the joined file.
-headers : (joinAnswer earlier later 80 ∷ joinAnswer later (file 1 8 5 (1 at 20 ∷ 2 at 30 ∷ [])) 80 ∷ joinAnswer (file 0 0 1 (1 at 10 ∷ [])) (file 0 0 1 (1 at 10 ∷ [])) 80 ∷ [])
+headers : (
+    joinAnswer earlier later 80
+    ∷ joinAnswer later (file 1 8 5 (1 at 20 ∷ 2 at 30 ∷ [])) 80
+    ∷ joinAnswer (file 0 0 1 (1 at 10 ∷ [])) (file 0 0 1 (1 at 10 ∷ [])) 80
+    ∷ []
+    )
     ≡ Written (heading 2 8 14 3)
     ∷ Written (heading 2 8 14 3)
     ∷ Written (heading 0 0 2 2)

@@ -5,7 +5,7 @@ use mathlib.Core.Bool.{cond}
 use mathlib.Core.List.{List, [], _∷_, _++_, map}
 use lib.ListN.{length}
 use Rattle.limits.proofs.Numbers.{itemsMost}
-use Rattle.pages.specs.Rows.{flat, over}
+use Rattle.pages.specs.Rows.{All, flat, over}
 use Rattle.pages.specs.Pages.{has}
 use Rattle.trace.specs.Layout.{header, items}
 use Rattle.trace.specs.Rules.{Rising}
@@ -33,11 +33,6 @@ joined (one f) = f
 joined (both l r) = joinedFile (joined l) (joined r)
 
 -- ---- which trees are joined
-
--- Each of some rows is a file.
-abbrev pub AreFiles : List (List ℕ) → Type 0
-AreFiles [] = Unit {0}
-AreFiles (f ∷ fs) = IsFile f × AreFiles fs
 
 -- The items of files, one after the other.
 abbrev pub itemsOfAll : List (List ℕ) → List Item
@@ -96,16 +91,16 @@ pub record IsJoinedTree (t : Tree) : Type 0 where
 
 -- Files whose times never fall from one to the next, joined in any bracketing within the limits.
 abbrev pub JoinsTrees : Type 0
-JoinsTrees = (t : Tree) → AreFiles (files t) → Rising 0 (itemsOfAll (files t)) → Within t → IsJoinedTree t
+JoinsTrees = (t : Tree) → All IsFile (files t) → Rising 0 (itemsOfAll (files t)) → Within t → IsJoinedTree t
 
 -- Of such files: where all items together, and all references, are within the limits, they are at each join, in any bracketing.
 abbrev pub SumsAreEnough : Type 0
 SumsAreEnough =
-    (t : Tree) → AreFiles (files t) → Rising 0 (itemsOfAll (files t))
+    (t : Tree) → All IsFile (files t) → Rising 0 (itemsOfAll (files t))
     → headerOfAll (files t) .items ≤ itemsMost → headerOfAll (files t) .references ≤ 2 ^ 32 - 1 → Within t
 
 -- And joining them is associative: two trees of the same files in the same order stay within the limits together, and come to the same file.
 abbrev pub JoinsAssociate : Type 0
 JoinsAssociate =
-    (s t : Tree) → files s ≡ files t → AreFiles (files s) → Rising 0 (itemsOfAll (files s)) → Within s
+    (s t : Tree) → files s ≡ files t → All IsFile (files s) → Rising 0 (itemsOfAll (files s)) → Within s
     → Within t × (joined s ≡ joined t)

@@ -9,7 +9,7 @@ use native.Mathlib.Omega.{arith}
 use lib.ListN.{length, getD, take, drop, set, length-append, length-drop, take-append-drop, drop-of-length-le}
 use lib.Seq.{drop-cons, take-suc, take-suc-set, append-snoc, take-append-seam, drop-append-add, drop-drop, take-set-le, take-set-lt, drop-set-lt, drop-set-add, sets, sets-eq}
 use borrow.Rule.Slice.PartMut.{midOf, putMid}
-use Rattle.pages.specs.Rows.{consIf, flat, over}
+use Rattle.pages.specs.Rows.{All, consIf, flat, over}
 
 module _ {A : Type 0} where
   -- ---- an element at a time
@@ -84,6 +84,18 @@ module _ {A : Type 0} where
   pub take-over : (s d : List A) → take (length s) (over s d) ≡ s
   unfolding over
   take-over s d = take-append-seam s (drop (length s) d)
+
+  -- ---- each of a list
+
+  -- Each of two lists one after the other, where each of both is.
+  pub all-append : (P : A → Type 0) (a b : List A) → All P a → All P b → All P (a ++ b)
+  all-append P [] b p q = q
+  all-append P (x ∷ a) b p q = (p .0, all-append P a b (p .1) q)
+
+  -- And the other way round.
+  pub all-parts : (P : A → Type 0) (a b : List A) → All P (a ++ b) → All P a × All P b
+  all-parts P [] b p = (tt, p)
+  all-parts P (x ∷ a) b p = let (q, r) = all-parts P a b (p .1) in ((p .0, q), r)
 
   -- ---- lists one after the other
 

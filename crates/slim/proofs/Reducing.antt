@@ -7,11 +7,11 @@ use native.Mathlib.Omega.{arith}
 use lib.ListN.{length, replicate}
 use lib.Seq.{sets}
 use lib.Dec.{leb, eqb}
-use borrow.Author.Tests.{leb-true, le-leb, ltb-false, le-ltb, eqb-true, eq-eqb, not-false}
+use borrow.Author.Tests.{leb-true, ltb-false, le-ltb, eqb-true, eq-eqb, not-false}
 use Rattle.limits.specs.Sizes.{between}
 use Rattle.limits.proofs.Numbers.{filterLeast, filterMost}
 use Rattle.pages.specs.Rows.{over}
-use Rattle.pages.proofs.Choice.{and-true, and-both}
+use Rattle.pages.proofs.Choice.{and-true}
 use Rattle.trace.specs.Layout.{header, items, itemsFrom, encodeHeader, encodeItems}
 use Rattle.trace.specs.Refusals.{row}
 use Rattle.trace.specs.Verdict.{first, _then_}
@@ -21,6 +21,7 @@ use Rattle.trace.specs.declared.Reason.{Reason}
 use Rattle.trace.specs.declared.Refusal.{Refusal}
 use Rattle.trace.specs.declared.Verdict.{Verdict}
 use Rattle.trace.specs.declared.Verdict.the-variants.{Sound, Faulty}
+use Rattle.trace.proofs.Allowed.{le-between}
 use Rattle.trace.proofs.Sound.{first-passed, passed-first, then-both, both-then, elim-then}
 use Rattle.trace.proofs.Checking.{sound-file}
 use Rattle.trace.proofs.Tests.{holds}
@@ -66,7 +67,7 @@ sound-reducible f mode size room e =
 -- And such a reduction is not refused: its kept items' times do not fall.
 pub reducible-sound : (f : List ℕ) (mode size room : ℕ) → Reducible f mode size room → reduceVerdict f mode size room ≡ Sound
 reducible-sound f mode size room a =
-    let b : between filterLeast filterMost size ≡ true = and-both (leb filterLeast size) (leb size filterMost) (le-leb filterLeast size (a .least)) (le-leb size filterMost (a .most)) in
+    let b : between filterLeast filterMost size ≡ true = le-between filterLeast filterMost size (a .least) (a .most) in
     let k : eqb (header f .kind) 0 ≡ true = eq-eqb (header f .kind) 0 (a .whole) in
     let t : falls 0 (keptOf f mode size) ≡ false = flag-rising f mode size refl (a .file-sound) in
     reduce-then f mode size room

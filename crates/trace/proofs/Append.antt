@@ -1,23 +1,9 @@
--- Items one after the other: they fit where both rows do, and their times do not fall where neither row's do, nor where the two meet. Assumes nothing.
+-- Items one after the other whose times never fall: neither row's times fall, nor do they where the two meet. Assumes nothing.
 use Prim.Native.Nat.{ℕ, _≤_}
 use mathlib.Core.List.{List, [], _∷_, _++_}
 use native.Mathlib.Omega.{arith}
-use Rattle.trace.specs.Rules.{ItemsFit, Rising}
+use Rattle.trace.specs.Rules.{Rising}
 use Rattle.trace.specs.declared.Item.{Item}
-
--- ---- items that fit
-
--- Items that fit, and then others.
-pub fit-append : (a b : List Item) → ItemsFit a → ItemsFit b → ItemsFit (a ++ b)
-fit-append [] b p q = q
-fit-append (i ∷ a) b p q = (p .0, fit-append a b (p .1) q)
-
--- Of items one after the other that fit, the first fit, and the second do.
-pub fit-parts : (a b : List Item) → ItemsFit (a ++ b) → ItemsFit a × ItemsFit b
-fit-parts [] b f = (tt, f)
-fit-parts (i ∷ a) b f = let (p, q) = fit-parts a b (f .1) in ((f .0, p), q)
-
--- ---- times that never fall
 
 -- Times that do not fall from a time on do not fall from an earlier one on.
 pub rising-earlier : {from later : ℕ} → from ≤ later → (t : List Item) → Rising later t → Rising from t

@@ -1,11 +1,10 @@
 -- What is promised of the file format, over the definitions that the contracts cite. Assumes nothing.
-use Prim.Native.Nat.{ℕ, _+_, _*_, _<_, _≤_}
+use Prim.Native.Nat.{ℕ, _+_, _*_, _<_}
 use mathlib.Core.Path.{_≡_}
-use mathlib.Core.Bool.{true}
 use mathlib.Core.List.{List}
 use lib.ListN.{length, getD}
 use Rattle.trace.specs.Layout.{encode, header, items, decode}
-use Rattle.trace.specs.Rules.{allowed, Allowed}
+use Rattle.trace.specs.Rules.{Allowed}
 use Rattle.trace.specs.Check.{checked}
 use Rattle.trace.specs.declared.Item.{Item}
 use Rattle.trace.specs.declared.Header.{Header}
