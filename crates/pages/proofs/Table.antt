@@ -1,15 +1,15 @@
 -- Places in a list of pages: where a page stands, after a page more, and after a store behind the pages that a buffer holds. Assumes nothing.
 use Prim.Native.Nat.{ℕ, zero, suc, _+_, _≤_, _<_}
 use mathlib.Core.Path.{_≡_, sym, ap, _∙_}
-use mathlib.Core.Bool.{true, false, false≢true}
+use mathlib.Core.Bool.{true, false, or-true, true≢false, false≢true}
 use mathlib.Core.List.{List, [], _∷_, _++_}
 use native.Mathlib.Numerals.{add-one}
 use native.Mathlib.Omega.{arith}
 use lib.ListN.{length, getD, take, set}
 use lib.Seq.{take-suc-set}
 use lib.Dec.{ltb, eqb, leb·suc-suc}
-use borrow.Author.Tests.{ltb-true, lt-ltb, le-ltb}
-use Rattle.pages.specs.Pages.{has, add, place}
+use borrow.Author.Tests.{ltb-true, lt-ltb, le-ltb, eq-eqb, ne-eqb}
+use Rattle.pages.specs.Pages.{has, add, place, Distinct}
 use Rattle.pages.proofs.Choice.{split, same, eqb-self}
 use Rattle.pages.proofs.Added.{add-old, add-new}
 use Rattle.pages.proofs.Places.{has-place}
@@ -79,3 +79,19 @@ has-taken p (suc c) (q ∷ l) h =
     split (eqb p q)
     (λ e. rw e (sym (lt-ltb 0 (suc c) (omega arith))))
     (λ e. rw e (has-taken p c l (omega arith) ∙ sym (leb·suc-suc (suc (place p l)) c)))
+
+-- What stands at a place of a list is in it.
+pub has-getD : (p : ℕ) (l : List ℕ) (j : ℕ) → j < length l → getD l j 0 ≡ p → has p l ≡ true
+unfolding has
+has-getD p [] j h e = absurd (omega arith)
+has-getD p (q ∷ l) zero h e = rw (eq-eqb p q (sym e))
+has-getD p (q ∷ l) (suc j) h e = rw (has-getD p l j (omega arith) e) (or-true (eqb p q))
+
+-- Where no page stands twice, the one place that holds a page is its place.
+pub place-alone : (p : ℕ) (l : List ℕ) (j : ℕ) → Distinct l → j < length l → getD l j 0 ≡ p → j ≡ place p l
+unfolding place
+place-alone p [] j d h e = absurd (omega arith)
+place-alone p (q ∷ l) zero d h e = rw (eq-eqb p q (sym e))
+place-alone p (q ∷ l) (suc j) d h e =
+    let n : eqb p q ≡ false = ne-eqb p q (λ t. true≢false (sym (has-getD q l j (omega arith) (e ∙ t)) ∙ d .0)) in
+    rw n (ap suc (place-alone p l j (d .1) (omega arith) e))

@@ -1,0 +1,3 @@
+pub mod Noting
+pub mod Finding
+pub mod Filling

@@ -1,0 +1,13 @@
+-- `filter::bucket` meets its contract. Assumes nothing.
+use borrow.Author.Needs.{needs}
+use Rattle.filter.specs.Filter.{bucketOf}
+use Rattle.filter.proofs.Finding.{bucket-is}
+use Rattle.filter.proofs.bucket.Statement.{statement}
+use Rattle.filter.proofs.bucket.Tie as tie
+
+pub bucket-spec : {M : Type 1} → statement M
+bucket-spec =
+    tie.close
+    (tie.spec
+    (λ c κs. search needs)
+    (λ c. search (bucket-is, needs)))

@@ -1,0 +1,65 @@
+-- The reducer's filter: a row of item numbers, one for each page that it holds, and chains by which a page is found. No page is stored: it is read from the file. Assumes nothing.
+use Prim.Native.Nat.{ℕ, _+_, _*_, _/_, _%_, _≤_, _<_}
+use mathlib.Core.Path.{_≡_}
+use mathlib.Core.Bool.{false}
+use mathlib.Core.List.{List, map}
+use lib.ListN.{length, getD, take}
+use Rattle.pages.specs.Pages.{has, Distinct}
+use Rattle.trace.specs.Layout.{itemAt}
+use Rattle.chains.specs.Chains.{at, Chained, mixed}
+
+-- ---- which pages it holds
+
+-- The pages of the items of a file that have these numbers.
+unfoldable pub pagesOf : List ℕ → List ℕ → List ℕ
+pagesOf file items = map (λ i. itemAt file i .page) items
+
+-- The pages that a filter holds: those of the items noted in its first places.
+abbrev pub pagesIn : List ℕ → List ℕ → ℕ → List ℕ
+pagesIn file last held = pagesOf file (take held last)
+
+-- Place j notes an item of the file.
+pub record Stands (file last : List ℕ) (j : ℕ) : Type 0 where
+  pub within : j < length last
+  pub readable : 23 + 19 * (getD last j 0 + 1) ≤ length file
+
+-- The first `held` places note items of the file, whose pages are l, and none of them stands twice.
+pub record Notes (file last : List ℕ) (held : ℕ) (l : List ℕ) : Type 0 where
+  pub within : held ≤ length last
+  pub readable : (j : ℕ) → j < held → 23 + 19 * (getD last j 0 + 1) ≤ length file
+  pub pages-are : pagesIn file last held ≡ l
+  pub once : Distinct l
+
+-- ---- how it finds them
+
+-- How many buckets there are.
+abbrev pub buckets : ℕ
+buckets = 1024
+
+-- The bucket of a page.
+unfoldable pub bucketOf : ℕ → ℕ
+bucketOf p = mixed p / 4194304 % buckets
+
+-- The bucket of the page at a place of a list.
+unfoldable pub bucketAt : List ℕ → ℕ → ℕ
+bucketAt l j = bucketOf (at l j)
+
+-- The filter holds the pages l, and has a place for as many as `last` has. Its chains are by the pages' buckets; places above base fit two bytes.
+pub record Holds (file last : List ℕ) (held base : ℕ) (heads next l : List ℕ) : Type 0 where
+  pub notes : Notes file last held l
+  pub chained : Chained (bucketAt l) held base heads next
+  pub heads-long : buckets ≤ length heads
+  pub next-long : length last ≤ length next
+  pub small : base + length last ≤ 65535
+
+-- The rows are a filter.
+abbrev pub IsFilter : List ℕ → List ℕ → ℕ → ℕ → List ℕ → List ℕ → Type 0
+IsFilter file last held base heads next = Holds file last held base heads next (pagesIn file last held)
+
+-- Item k can be added: its page is new, there is a place for it, and its number fits four bytes.
+pub record CanAdd (file last : List ℕ) (held base : ℕ) (heads next : List ℕ) (k : ℕ) : Type 0 where
+  pub filter : IsFilter file last held base heads next
+  pub room : held < length last
+  pub readable : 23 + 19 * (k + 1) ≤ length file
+  pub few : k < 4294967296
+  pub new : has (itemAt file k .page) (pagesIn file last held) ≡ false

@@ -1,0 +1,191 @@
+// The reducer's filter, in 8 KiB: a four-byte item number for each page that it holds, and chains of two-byte places to find a page by.
+ghost use mathlib.Core.Path.{_≡_};
+ghost use Prim.Native.Nat.{_+_, _*_, _≤_, _<_};
+ghost use mathlib.Core.Bool.{true};
+ghost use mathlib.Core.List.{[]};
+ghost use lib.ListN.{length, getD, take, set};
+ghost use lib.Dec.{eqb};
+ghost use Rattle.pages.specs.Pages.{has, add as added, place};
+ghost use Rattle.trace.specs.Layout.{itemAt};
+ghost use Rattle.filter.specs.Filter.{pagesOf, pagesIn, Stands, Notes, buckets, bucketOf, Holds, IsFilter, CanAdd};
+
+// How many heads there are. 1,024 of two bytes, with 1,024 places of four and two, make 8 KiB.
+pub const BUCKETS: usize = 1024;
+
+// How many links of a chain are followed before the places are gone through one by one.
+// Chains are longer only where pages are chosen to share a bucket, and a link costs more than a place.
+const LINKS: usize = 8;
+
+fn number(x: u32) -> usize
+    ensures { λ r. ⌜ r ≡ x ⌝ }
+{
+    x as usize
+}
+
+// The item that place j notes.
+fn note_at(last: &[u32], j: usize) -> usize
+    requires { ⌜ j < length (now last) ⌝ }
+    ensures { λ r. ⌜ r ≡ getD (now (last .entry)) j 0 ⌝ }
+{
+    number(last[j])
+}
+
+// The bucket of a page.
+fn bucket(page: u64) -> usize
+    ensures { λ r. ⌜ r ≡ bucketOf page ⌝ }
+    ensures { λ r. ⌜ r < buckets ⌝ }
+{
+    (chains::mix(page) / 4194304 % 1024) as usize
+}
+
+// The page of the item that place j notes.
+fn page_at(file: &[u8], last: &[u32], j: usize) -> u64
+    requires { ⌜ Stands (now file) (now last) j ⌝ }
+    ensures { λ r. ⌜ r ≡ itemAt (now (file .entry)) (getD (now (last .entry)) j 0) .page ⌝ }
+{
+    let x = trace::read::item_at(file, note_at(last, j));
+    x.page
+}
+
+// The place of a page, or how many pages there are, by all places in turn: four at a time, since a turn costs as much as a place.
+fn scan(file: &[u8], last: &[u32], held: usize, page: u64) -> usize
+    requires { ⌜ Notes (now file) (now last) held (pagesIn (now file) (now last) held) ⌝ }
+    ensures { λ r. ⌜ r ≡ place page (pagesIn (now (file .entry)) (now (last .entry)) held) ⌝ }
+{
+    let mut j = 0;
+    while j + 4 <= held {
+        if page_at(file, last, j) == page {
+            return j;
+        }
+        if page_at(file, last, j + 1) == page {
+            return j + 1;
+        }
+        if page_at(file, last, j + 2) == page {
+            return j + 2;
+        }
+        if page_at(file, last, j + 3) == page {
+            return j + 3;
+        }
+        j += 4;
+    }
+    while j < held {
+        if page_at(file, last, j) == page {
+            return j;
+        }
+        j += 1;
+    }
+    held
+}
+
+// The place of a page in the filter, or how many pages it holds.
+pub fn find(
+    file: &[u8],
+    last: &[u32],
+    held: usize,
+    base: usize,
+    heads: &[u16],
+    next: &[u16],
+    page: u64,
+) -> usize
+    requires { ⌜ IsFilter (now file) (now last) held base (now heads) (now next) ⌝ }
+    ensures { λ r. ⌜ r ≡ place page (pagesIn (now (file .entry)) (now (last .entry)) held) ⌝ }
+{
+    let mut left = LINKS;
+    let mut e = chains::first(base, heads, bucket(page));
+    while 0 < e {
+        if page_at(file, last, e - 1) == page {
+            return e - 1;
+        }
+        if left == 0 {
+            return scan(file, last, held, page);
+        }
+        left -= 1;
+        e = chains::before(next, e - 1);
+    }
+    held
+}
+
+// Whether a page that the filter holds stands at place c.
+pub fn is_at(file: &[u8], last: &[u32], held: usize, page: u64, c: usize) -> bool
+    requires { ⌜ Notes (now file) (now last) held (pagesIn (now file) (now last) held) ⌝ }
+    requires { ⌜ has page (pagesIn (now file) (now last) held) ≡ true ⌝ }
+    ensures { λ r. ⌜ r ≡ eqb (place page (pagesIn (now (file .entry)) (now (last .entry)) held)) c ⌝ }
+{
+    if held <= c {
+        return false;
+    }
+    page_at(file, last, c) == page
+}
+
+// Whether the filter notes item k. The numbers on the chain tell, and the file is read only where the chain is long.
+pub fn is_noted(
+    file: &[u8],
+    last: &[u32],
+    held: usize,
+    base: usize,
+    heads: &[u16],
+    next: &[u16],
+    k: usize,
+) -> bool
+    requires { ⌜ IsFilter (now file) (now last) held base (now heads) (now next) ⌝ }
+    requires { ⌜ 23 + 19 * (k + 1) ≤ length (now file) ⌝ }
+    ensures { λ r. ⌜ r ≡ has k (take held (now (last .entry))) ⌝ }
+{
+    let x = trace::read::item_at(file, k);
+    let mut left = LINKS;
+    let mut e = chains::first(base, heads, bucket(x.page));
+    while 0 < e {
+        if note_at(last, e - 1) == k {
+            return true;
+        }
+        if left == 0 {
+            let j = scan(file, last, held, x.page);
+            if held <= j {
+                return false;
+            }
+            return note_at(last, j) == k;
+        }
+        left -= 1;
+        e = chains::before(next, e - 1);
+    }
+    false
+}
+
+// The filter with one page more, that of item k.
+pub fn add(
+    file: &[u8],
+    last: &mut [u32],
+    held: usize,
+    base: usize,
+    heads: &mut [u16],
+    next: &mut [u16],
+    k: usize,
+)
+    requires { ⌜ CanAdd (now file) (now last) held base (now heads) (now next) k ⌝ }
+    ensures { λ _. ⌜ now (last .exit) ≡ set (now (last .entry)) held k ⌝ }
+    ensures { λ _. ⌜ Holds (now (file .entry)) (now (last .exit)) (held + 1) base (now (heads .exit)) (now (next .exit)) (added (itemAt (now (file .entry)) k .page) (pagesIn (now (file .entry)) (now (last .entry)) held)) ⌝ }
+{
+    let x = trace::read::item_at(file, k);
+    chains::push(base, heads, next, held, bucket(x.page));
+    last[held] = k as u32;
+}
+
+// The filter with no page: answers its base. The heads are left as they are while what they say is below it, and cleared when a place more would not fit two bytes.
+pub fn empty(
+    file: &[u8],
+    last: &[u32],
+    held: usize,
+    base: usize,
+    heads: &mut [u16],
+    next: &[u16],
+) -> usize
+    requires { ⌜ IsFilter (now file) (now last) held base (now heads) (now next) ⌝ }
+    ensures { λ r. ⌜ Holds (now (file .entry)) (now (last .entry)) 0 r (now (heads .exit)) (now (next .entry)) [] ⌝ }
+{
+    let above = base + held;
+    if above + last.len() <= 65535 {
+        return above;
+    }
+    chains::clear(heads);
+    0
+}
