@@ -13,7 +13,7 @@ use Rattle.trace.specs.Layout.{itemAt}
 use Rattle.trace.specs.declared.Item.{Item}
 use Rattle.chains.specs.Chains.{at, Low, CanPush, headsWith, nextWith}
 use Rattle.chains.proofs.Chained.{chained-none, chained-low, chained-more}
-use Rattle.filter.specs.Filter.{pagesOf, pagesIn, Notes, buckets, bucketOf, bucketAt, Holds, CanAdd}
+use Rattle.filter.specs.Filter.{pagesOf, pagesIn, Notes, buckets, bucketOf, bucketAt, Holds, IsFilter, CanAdd}
 use Rattle.filter.proofs.Noting.{notes-long, notes-again, notes-more}
 use Rattle.filter.proofs.Finding.{bucket-below}
 
@@ -30,6 +30,10 @@ holds-none file last {next = next} w h n s = record {
 }
 
 module _ {file last : List ℕ} {held base : ℕ} {heads next l : List ℕ} (f : Holds file last held base heads next l) where
+  -- It is a filter.
+  pub holds-in : IsFilter file last held base heads next
+  holds-in = rw (f .notes .pages-are) f
+
   -- What the heads say is no more than base and the number of pages.
   pub holds-low : Low (base + held) heads
   holds-low = chained-low (f .chained)

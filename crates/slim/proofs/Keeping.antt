@@ -1,18 +1,18 @@
 -- The second pass over a stretch: what is left of it, and the loop that has kept some of it. Assumes nothing.
 use Prim.Native.Nat.{ℕ, suc, _+_, _-_, _*_, _≤_, _<_}
 use mathlib.Core.Path.{_≡_, refl, sym, ap, _∙_}
-use mathlib.Core.Bool.{true, false, cond, or-true}
+use mathlib.Core.Bool.{Bool, true, false, cond, or-true}
 use mathlib.Core.List.{List, [], _∷_, _++_, append-nil, append-assoc}
 use native.Mathlib.Nat.{add-zero}
 use native.Mathlib.Omega.{arith}
 use lib.ListN.{length, getD, take, length-append}
 use lib.Seq.{sets, length-take-le, take-append-seam}
-use lib.Dec.{ltb}
-use borrow.Author.Tests.{lt-ltb, le-ltb}
+use lib.Dec.{ltb, eqb}
+use borrow.Author.Tests.{ltb-true, lt-ltb, le-ltb, eqb-false}
 use Rattle.pages.specs.Rows.{consIf}
 use Rattle.pages.specs.Pages.{has, add, place}
-use Rattle.pages.proofs.Choice.{split, eqb-self}
-use Rattle.pages.proofs.Added.{add-old, length-new, add-begins}
+use Rattle.pages.proofs.Choice.{split, same, eqb-self}
+use Rattle.pages.proofs.Added.{add-old, has-add, length-new, length-add, add-begins}
 use Rattle.trace.specs.Layout.{encodeItem, encodeItems, itemAt, itemsFrom}
 use Rattle.trace.specs.declared.Item.{Item}
 use Rattle.trace.proofs.Items.{from-turn, from-none}
@@ -22,7 +22,10 @@ use Rattle.slim.specs.Keep.{isFirst, isLast, keeps, kept}
 use Rattle.slim.specs.Passes.{lastPlace, Noted, CanKeep, keptThere}
 use Rattle.slim.specs.declared.Mode.the-variants.{Demand}
 use Rattle.slim.proofs.Kept.{first-kept, last-kept}
-use Rattle.pages.proofs.Table.{has-taken}
+use Rattle.pages.proofs.Table.{has-taken, has-within}
+use Rattle.filter.specs.Filter.{Notes}
+use Rattle.filter.proofs.Noting.{notes-long}
+use Rattle.filter.proofs.Finding.{noted-there}
 
 -- ---- the filter after a stretch begins with the filter before it
 
@@ -78,6 +81,16 @@ module _ {F last : List ℕ} {k c : ℕ} {x : Item} {v : List Item} (l : Left F 
         kept-are = f (kept Demand s v) ∙ ap (λ (t : List ℕ). a ++ kept Demand t v) q;
       }
 
+  -- Its page is in the filter after the stretch, where no page before it is new.
+  near : (place (x .page) F ≤ c) × (has (x .page) F ≡ true)
+  near =
+      let p = x .page in
+      let s = add p (take c F) in
+      let g = filter-grows F s v after in
+      let a : has p s ≡ true = rw (has-add p (take c F) p, eqb-self p) (or-true (has p (take c F))) in
+      let b : place p F < length s = ltb-true (place p F) (length s) (sym (has-taken p (length s) F g) ∙ rw (filter-begins F s v after) a) in
+      (omega (arith, length-add p (take c F), length-take-le c F (l .before)), has-within p F (omega arith))
+
   module _ {j : ℕ} (q : j ≡ place (x .page) F) where
     -- Where the number of the last item of its page is noted stands x's, unless the page comes again.
     noted : getD last j 0 ≡ k + cond (has (x .page) (pages v)) (suc (lastPlace (x .page) v)) 0
@@ -125,6 +138,7 @@ pub record Keeping (file : List ℕ) (from end held done : ℕ) (filter last out
   pub all : so-far ++ kept Demand (take c filter) (itemsFrom file k (end - k)) ≡ keptThere file from end held filter
   pub count : m ≡ done + length so-far
   pub few : m + from ≤ done + k
+  pub room : 23 + 19 * (done + (end - from)) ≤ length out
   pub out-long : length out ≡ length out₀
 
 -- Nothing is kept yet.
@@ -138,6 +152,7 @@ keeping-none {done = done} {out = out} p = record {
   all = refl;
   count = omega arith;
   few = omega arith;
+  room = p .room;
   out-long = refl;
 }
 
@@ -161,22 +176,37 @@ module _ {file : List ℕ} {from end held done : ℕ} {filter last out₀ : List
       all = rw (append-assoc, ← t .kept-are, ← rest) (r .all);
       count = omega (arith, length-append (r .so-far) a);
       few = omega arith;
+      room = rw (wrote-long w) (r .room);
       out-long = wrote-long w ∙ r .out-long;
     }
 
-    module _ {j : ℕ} (q : j ≡ place (x .page) filter) where
-      -- The item is neither the first nor the last of its page.
-      pub keeping-skip : j < c → (getD last j 0 ≡ k → ⊥) → Keeping file from end held done filter last out₀ (k + 1) c m out
-      keeping-skip b n = passed (turn-skip here q b n) (wrote-none m out) (omega arith) (omega arith)
+    -- The item's page is in the filter.
+    pub keeping-has : has (x .page) filter ≡ true
+    keeping-has = near here .1
 
-      module _ {out′ : List ℕ} (w : out′ ≡ sets out (23 + 19 * m) (encodeItem x)) where
+    module _ {b : Bool} (q : b ≡ eqb (place (x .page) filter) c) where
+      -- The item is the first of its page, and is written.
+      pub keeping-new : b ≡ true → {out′ : List ℕ} → out′ ≡ sets out (23 + 19 * m) (encodeItem x) → Keeping file from end held done filter last out₀ (k + 1) (c + 1) (m + 1) out′
+      keeping-new t w = passed (turn-new here refl (omega (arith, same _ c (sym q ∙ t)))) (wrote-one w) (omega arith) (omega arith)
+
+      module _ (t : b ≡ false) {holds : ℕ} (n : Notes file last holds filter) {d : Bool} (p : d ≡ has k (take holds last)) where
+        before : place (x .page) filter < c
+        before =
+            let w = near here .0 in
+            let z = eqb-false (place (x .page) filter) c (sym q ∙ t) in
+            omega arith
+
+        -- What is noted at the page's place tells whether it is the last.
+        told : eqb (getD last (place (x .page) filter) 0) k ≡ d
+        told = noted-there n k e refl (omega (arith, before, here .before, notes-long n)) refl ∙ sym p
+
         -- The item is the last of its page, and is written.
-        pub keeping-last : j < c → getD last j 0 ≡ k → Keeping file from end held done filter last out₀ (k + 1) c (m + 1) out′
-        keeping-last b n = passed (turn-last here q b n) (wrote-one w) (omega arith) (omega arith)
+        pub keeping-last : d ≡ true → {out′ : List ℕ} → out′ ≡ sets out (23 + 19 * m) (encodeItem x) → Keeping file from end held done filter last out₀ (k + 1) c (m + 1) out′
+        keeping-last y w = passed (turn-last here refl before (same _ k (told ∙ y))) (wrote-one w) (omega arith) (omega arith)
 
-        -- The item is the first of its page, and is written.
-        pub keeping-new : c ≤ j → Keeping file from end held done filter last out₀ (k + 1) (c + 1) (m + 1) out′
-        keeping-new b = passed (turn-new here q b) (wrote-one w) (omega arith) (omega arith)
+        -- It is neither the first nor the last.
+        pub keeping-skip : d ≡ false → Keeping file from end held done filter last out₀ (k + 1) c m out
+        keeping-skip y = passed (turn-skip here refl before (eqb-false _ k (told ∙ y))) (wrote-none m out) (omega arith) (omega arith)
 
   module _ (h : end ≤ k) where
     -- What is kept so far is all.

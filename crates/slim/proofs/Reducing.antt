@@ -1,5 +1,5 @@
 -- `reduce`, from its verdict and from what the passes leave. Assumes nothing.
-use Prim.Native.Nat.{ℕ, _+_, _*_, _≤_}
+use Prim.Native.Nat.{ℕ, _+_, _*_, _≤_, _<_}
 use mathlib.Core.Path.{_≡_, refl, sym, _∙_}
 use mathlib.Core.Bool.{true, false}
 use mathlib.Core.List.{List}
@@ -27,6 +27,9 @@ use Rattle.trace.proofs.Checking.{sound-file}
 use Rattle.trace.proofs.Tests.{holds}
 use Rattle.trace.proofs.Items.{items-from, length-from}
 use Rattle.trace.proofs.Output.{Wrote, wrote-file}
+use Rattle.chains.proofs.Chained.{low-zeros}
+use Rattle.filter.specs.Filter.{buckets}
+use Rattle.filter.proofs.Filling.{holds-none}
 use Rattle.slim.specs.Keep.{reduce}
 use Rattle.slim.specs.Passes.{CanSlim}
 use Rattle.slim.specs.Reduce.{isMode, modeOf, keptOf, reducedHeader, reducedFile, falls, reduceTests, reduceVerdict, reduceAnswer, reduceOut}
@@ -106,16 +109,17 @@ module _ (f : List ℕ) (mode size : ℕ) (out : List ℕ) (v : reduceVerdict f 
     long-is : length f ≡ 23 + 19 * h .items
     long-is = rw q long
 
-    -- The passes may begin, with room for the largest filter.
-    pub reducing-slim : CanSlim f (h .items) size (replicate filterMost 0) (replicate filterMost 0) out
-    reducing-slim =
+    -- The passes may begin, with an empty filter that has room for the largest.
+    pub reducing-slim : h .items < 4294967296 → CanSlim f (h .items) size (replicate filterMost 0) (replicate buckets 0) (replicate filterMost 0) out
+    reducing-slim c =
         let a = able in
         record {
           file-long = omega (arith, long-is);
+          count = c;
           some = a .least;
           few = a .most;
+          filter = holds-none f (replicate filterMost 0) (low-zeros buckets) (omega arith) (omega arith) (omega arith);
           room = a .most;
-          notes = a .most;
           fits = omega (arith, long-is);
         }
 

@@ -1,5 +1,5 @@
 -- The two passes over a stretch of a trace, an epoch or a phase: what the code's functions are told, and what they leave. Assumes nothing.
-use Prim.Native.Nat.{ℕ, suc, _+_, _-_, _*_, _≤_}
+use Prim.Native.Nat.{ℕ, suc, _+_, _-_, _*_, _≤_, _<_}
 use mathlib.Core.Path.{_≡_}
 use mathlib.Core.Bool.{true, cond}
 use mathlib.Core.List.{List, [], _∷_}
@@ -8,6 +8,7 @@ use Rattle.limits.proofs.Numbers.{filterMost}
 use Rattle.pages.specs.Pages.{has, place}
 use Rattle.trace.specs.Layout.{itemsFrom}
 use Rattle.trace.specs.declared.Item.{Item}
+use Rattle.filter.specs.Filter.{Holds, IsFilter}
 use Rattle.slim.specs.Epochs.{pages, touched, cut}
 use Rattle.slim.specs.Keep.{kept}
 use Rattle.slim.specs.declared.Mode.{Mode}
@@ -30,19 +31,20 @@ Noted from w filter last = (p : ℕ) → has p (pages w) ≡ true → getD last 
 
 -- ---- the first pass
 
--- From item `from` of n on, with a filter of `held` pages that may come to hold `most`.
-pub record CanLook (file : List ℕ) (n from most held : ℕ) (pages last : List ℕ) : Type 0 where
+-- From item `from` of n on, with a filter of `held` pages that may come to hold `most`. A place of it notes the last item of its page.
+pub record CanLook (file : List ℕ) (n from most held : ℕ) (last : List ℕ) (base : ℕ) (heads next : List ℕ) : Type 0 where
   pub file-long : 23 + 19 * n ≤ length file
+  pub few : n < 4294967296
   pub within : from ≤ n
   pub holds : held ≤ most
-  pub room : most ≤ length pages
-  pub notes : most ≤ length last
+  pub room : most ≤ length last
+  pub filter : IsFilter file last held base heads next
 
--- The stretch from item `from` on is found, with the filter after it and the last item of each of its pages.
-pub record Looked (file : List ℕ) (n from most : ℕ) (seen : List ℕ) (r : Reach) (pages last : List ℕ) : Type 0 where
+-- The stretch from item `from` on is found. The filter, which held the pages seen, holds the stretch's too, and notes the last item of each of them.
+pub record Looked (file : List ℕ) (n from most : ℕ) (seen : List ℕ) (r : Reach) (last : List ℕ) (base : ℕ) (heads next : List ℕ) : Type 0 where
   pub stretch-is : (cut most seen (itemsFrom file from (n - from))) .here ≡ itemsFrom file from (r .end - from)
-  pub filter-is : take (r .held) pages ≡ touched seen (itemsFrom file from (r .end - from))
-  pub last-noted : Noted from (itemsFrom file from (r .end - from)) (take (r .held) pages) last
+  pub filter : Holds file last (r .held) base heads next (touched seen (itemsFrom file from (r .end - from)))
+  pub last-noted : Noted from (itemsFrom file from (r .end - from)) (touched seen (itemsFrom file from (r .end - from))) last
 
 pub record Within (n from most : ℕ) (r : Reach) : Type 0 where
   pub begins : from ≤ r .end
@@ -67,10 +69,11 @@ keptThere file from end held filter = kept Demand (take held filter) (itemsFrom 
 
 -- ---- all stretches
 
-pub record CanSlim (file : List ℕ) (n size : ℕ) (pages last out : List ℕ) : Type 0 where
+pub record CanSlim (file : List ℕ) (n size : ℕ) (last heads next out : List ℕ) : Type 0 where
   pub file-long : 23 + 19 * n ≤ length file
+  pub count : n < 4294967296
   pub some : 1 ≤ size
   pub few : size ≤ filterMost
-  pub room : size ≤ length pages
-  pub notes : size ≤ length last
+  pub filter : Holds file last 0 0 heads next []
+  pub room : size ≤ length last
   pub fits : 23 + 19 * n ≤ length out

@@ -7,10 +7,11 @@ use trace::Refusal;
 use trace::Verdict;
 ghost use mathlib.Core.Path.{_≡_};
 ghost use Prim.Native.Nat.{_+_, _*_, _≤_};
-ghost use lib.ListN.{length, take};
+ghost use lib.ListN.{length};
 ghost use lib.Seq.{sets};
 ghost use Rattle.pages.specs.Rows.{over};
 ghost use Rattle.limits.proofs.Numbers.{filterMost};
+ghost use Rattle.filter.specs.Filter.{pagesIn, IsFilter};
 ghost use Rattle.trace.specs.declared.Verdict.the-variants.{Sound};
 ghost use Rattle.trace.specs.Layout.{encodeItems, itemsFrom};
 ghost use Rattle.slim.specs.Keep.{reduce as reduced};
@@ -45,34 +46,35 @@ fn limit_of(mode: Mode, size: usize, held: usize) -> usize
     }
 }
 
-// First pass over a stretch: where it ends, the filter after it, and the last item of each of its pages.
+// First pass over a stretch: where it ends, and the filter after it, which notes the last item of each of its pages.
 fn look(
     file: &[u8],
     n: usize,
     from: usize,
     most: usize,
-    pages: &mut [u64],
-    last: &mut [usize],
+    last: &mut [u32],
+    base: usize,
+    heads: &mut [u16],
+    next: &mut [u16],
     held: usize,
 ) -> Reach
-    requires { ⌜ CanLook (now file) n from most held (now pages) (now last) ⌝ }
-    ensures { λ r. ⌜ Looked (now (file .entry)) n from most (take held (now (pages .entry))) r (now (pages .exit)) (now (last .exit)) ⌝ }
+    requires { ⌜ CanLook (now file) n from most held (now last) base (now heads) (now next) ⌝ }
+    ensures { λ r. ⌜ Looked (now (file .entry)) n from most (pagesIn (now (file .entry)) (now (last .entry)) held) r (now (last .exit)) base (now (heads .exit)) (now (next .exit)) ⌝ }
     ensures { λ r. ⌜ Within n from most r ⌝ }
 {
     let mut k = from;
     let mut c = held;
     while k < n {
         let x = trace::read::item_at(file, k);
-        let j = pages::find(&pages[0..c], x.page);
+        let j = filter::find(file, last, c, base, heads, next, x.page);
         if j < c {
-            last[j] = k;
+            last[j] = k as u32;
             k += 1;
         } else {
             if most <= c {
                 return Reach { end: k, held: c };
             }
-            pages[c] = x.page;
-            last[c] = k;
+            filter::add(file, last, c, base, heads, next, k);
             c += 1;
             k += 1;
         }
@@ -81,39 +83,43 @@ fn look(
 }
 
 // Second pass: writes each item that is the first of its page in the epoch, or the last of it in the stretch.
+// The stretch's new pages stand behind the `held` ones in the order of their first items, so that a first is known by one place.
 fn keep(
     file: &[u8],
     from: usize,
     end: usize,
-    filter: &[u64],
-    last: &[usize],
+    last: &[u32],
+    holds: usize,
+    base: usize,
+    heads: &[u16],
+    next: &[u16],
     held: usize,
     out: &mut [u8],
     done: usize,
 ) -> usize
-    requires { ⌜ CanKeep (now file) from end held done (now filter) (now last) (now out) ⌝ }
-    ensures { λ r. ⌜ r ≡ done + length (keptThere (now (file .entry)) from end held (now (filter .entry))) ⌝ }
-    ensures { λ _. ⌜ now (out .exit) ≡ sets (now (out .entry)) (23 + 19 * done) (encodeItems (keptThere (now (file .entry)) from end held (now (filter .entry)))) ⌝ }
+    requires { ⌜ CanKeep (now file) from end held done (pagesIn (now file) (now last) holds) (now last) (now out) ⌝ }
+    requires { ⌜ IsFilter (now file) (now last) holds base (now heads) (now next) ⌝ }
+    ensures { λ r. ⌜ r ≡ done + length (keptThere (now (file .entry)) from end held (pagesIn (now (file .entry)) (now (last .entry)) holds)) ⌝ }
+    ensures { λ _. ⌜ now (out .exit) ≡ sets (now (out .entry)) (23 + 19 * done) (encodeItems (keptThere (now (file .entry)) from end held (pagesIn (now (file .entry)) (now (last .entry)) holds))) ⌝ }
 {
     let mut k = from;
     let mut c = held;
     let mut m = done;
     while k < end {
         let x = trace::read::item_at(file, k);
-        let j = pages::find(filter, x.page);
-        if j < c {
-            if last[j] == k {
+        if filter::is_at(file, last, holds, x.page, c) {
+            trace::write::item(out, m, x);
+            c += 1;
+            m += 1;
+            k += 1;
+        } else {
+            if filter::is_noted(file, last, holds, base, heads, next, k) {
                 trace::write::item(out, m, x);
                 m += 1;
                 k += 1;
             } else {
                 k += 1;
             }
-        } else {
-            trace::write::item(out, m, x);
-            c += 1;
-            m += 1;
-            k += 1;
         }
     }
     m
@@ -125,26 +131,29 @@ fn slim(
     n: usize,
     mode: Mode,
     size: usize,
-    pages: &mut [u64],
-    last: &mut [usize],
+    last: &mut [u32],
+    heads: &mut [u16],
+    next: &mut [u16],
     out: &mut [u8],
 ) -> usize
-    requires { ⌜ CanSlim (now file) n size (now pages) (now last) (now out) ⌝ }
+    requires { ⌜ CanSlim (now file) n size (now last) (now heads) (now next) (now out) ⌝ }
     ensures { λ r. ⌜ r ≡ length (reduced mode size (itemsFrom (now (file .entry)) 0 n)) ⌝ }
     ensures { λ _. ⌜ now (out .exit) ≡ sets (now (out .entry)) 23 (encodeItems (reduced mode size (itemsFrom (now (file .entry)) 0 n))) ⌝ }
 {
     let mut i = 0;
     let mut held = 0;
+    let mut base = 0;
     let mut m = 0;
     while i < n {
         let most = limit_of(mode, size, held);
-        let s = look(file, n, i, most, pages, last, held);
+        let s = look(file, n, i, most, last, base, heads, next, held);
         let end = s.end;
         let c = s.held;
-        m = keep(file, i, end, &pages[0..c], last, held, out, m);
+        m = keep(file, i, end, last, c, base, heads, next, held, out, m);
         i = end;
         if c == size {
             held = 0;
+            base = filter::empty(file, last, c, base, heads, next);
         } else {
             held = c;
         }
@@ -200,8 +209,9 @@ fn write_reduced(file: &[u8], mode: u64, size: u64, out: &mut [u8]) -> Header
     ensures { λ r. ⌜ r ≡ reducedHeader (now (file .entry)) mode size ⌝ }
     ensures { λ _. ⌜ now (out .exit) ≡ over (reducedFile (now (file .entry)) mode size) (now (out .entry)) ⌝ }
 {
-    let mut pages = [0u64; Filter::PLACES];
-    let mut last = [0usize; Filter::PLACES];
+    let mut last = [0u32; Filter::PLACES];
+    let mut heads = [0u16; filter::BUCKETS];
+    let mut next = [0u16; Filter::PLACES];
     let h = trace::read::header_at(file);
     let n = h.items as usize;
     let m = slim(
@@ -209,8 +219,9 @@ fn write_reduced(file: &[u8], mode: u64, size: u64, out: &mut [u8]) -> Header
         n,
         mode_of(mode),
         size as usize,
-        &mut pages,
         &mut last,
+        &mut heads,
+        &mut next,
         out,
     );
     let w = Header {

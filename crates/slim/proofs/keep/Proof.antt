@@ -1,27 +1,66 @@
 -- `slim::keep` meets its contract. Assumes nothing.
 use Prim.Native.Nat.{_-_}
+use native.Mathlib.Omega.{arith}
 use borrow.Author.Needs.{needs}
-use Rattle.slim.proofs.Keeping.{Keeping, keeping-none, keeping-skip, keeping-last, keeping-new, keeping-count, keeping-bytes}
+use Rattle.filter.specs.Filter.{pagesIn}
+use Rattle.slim.proofs.Keeping.{Keeping, keeping-none, keeping-has, keeping-new, keeping-last, keeping-skip, keeping-count, keeping-bytes}
 use Rattle.slim.proofs.keep.Statement.{statement}
 use Rattle.slim.proofs.keep.Tie as tie
 
-ruleset laws = (keeping-none, keeping-skip, keeping-new, keeping-count, keeping-bytes, needs)
+ruleset laws = (keeping-none, keeping-has, keeping-count, keeping-bytes, needs)
 
 abbrev Inv-loop : tie.InvT-loop
-Inv-loop file from end filter last held out₀ done k₀ c₀ m₀ out k c m = Keeping file from end held done filter last out₀ k c m out
+Inv-loop file from end last holds base heads next held out₀ done k₀ c₀ m₀ out k c m = Keeping file from end held done (pagesIn file last holds) last out₀ k c m out
 
 abbrev μ-loop : tie.MeasureT-loop
-μ-loop file from end filter last held out₀ done k₀ c₀ m₀ out k c m = end - k
+μ-loop file from end last holds base heads next held out₀ done k₀ c₀ m₀ out k c m = end - k
 
--- A turn writes an item whose page is known if its number is the one noted as the page's last.
-one-last : tie.Need-loop-again Inv-loop μ-loop
+-- A turn writes an item that is the first of its page.
+one-new : tie.Need-loop-again Inv-loop μ-loop
+one-new c =
+    let written = c .before .before in
+    let new = written .before .before in
+    let asked = new .before in
+    let turn = asked .before .before in
+    keeping-new (turn .before .loop .inv) (turn .loop-test .taken) (asked .before .item-at .ensures) (asked .is-at .ensures) (new .if1 .taken) (written .item .ensures)
+
+-- A turn writes an item that is the last of its page.
+one-last : tie.Need-loop-again-2 Inv-loop μ-loop
 one-last c =
     let written = c .before .before in
     let last = written .before .before in
-    let found = last .before .before .before in
-    let turn = found .before .before in
-    keeping-last (turn .before .loop .inv) (turn .loop-test .taken) (found .before .item-at .ensures) (found .find .ensures) (written .item .ensures)
-    (last .before .before .if1 .taken) (last .if2 .taken)
+    let noted = last .before in
+    let old = noted .before in
+    let asked = old .before in
+    let turn = asked .before .before in
+    let start = turn .before .before .before .before .before .before .before in
+    keeping-last (turn .before .loop .inv) (turn .loop-test .taken) (asked .before .item-at .ensures) (asked .is-at .ensures) (old .if1 .left) (start .pre .1 .notes)
+    (noted .is-noted .ensures) (last .if2 .taken) (written .item2 .ensures)
+
+-- A turn passes an item that is neither.
+one-more : tie.Need-loop-again-3 Inv-loop μ-loop
+one-more c =
+    let noted = c .before in
+    let old = noted .before in
+    let asked = old .before in
+    let turn = asked .before .before in
+    let start = turn .before .before .before .before .before .before .before in
+    keeping-skip (turn .before .loop .inv) (turn .loop-test .taken) (asked .before .item-at .ensures) (asked .is-at .ensures) (old .if1 .left) (start .pre .1 .notes)
+    (noted .is-noted .ensures) (c .if2 .left)
+
+-- The count of items written fits: the output has room for them.
+fits : tie.Need-add-m-2 Inv-loop μ-loop
+fits c =
+    let turn = c .before .before .before .before .before .before .before .before .before in
+    let start = turn .before .before .before .before .before .before .before in
+    let at = turn .before .loop .inv in
+    let test = turn .loop-test .taken in
+    let good = start .good .1 .1 .1 .1 .1 .1 .1 .1 .1 .0 in
+    let long = at .out-long in
+    let few = at .few in
+    let count = at .count in
+    let room = at .room in
+    record { fits = omega arith }
 
 pub keep-spec : {M : Type 1} → statement M
 keep-spec =
@@ -32,21 +71,20 @@ keep-spec =
     (λ c. search laws)
     (λ c κs. search laws)
     (λ c κs. search laws)
-    (λ c. search laws)
-    (λ c. search laws)
     (λ c κs. search laws)
     (λ c. search laws)
+    (λ c. search laws)
+    (λ c. search laws)
+    (λ c. search laws)
+    one-new
+    (λ c κs. search laws)
+    (λ c κs. search laws)
+    fits
     (λ c. search laws)
     (λ c. search laws)
     one-last
     (λ c. search laws)
     (λ c. search laws)
-    (λ c. search laws)
-    (λ c κs. search laws)
-    (λ c. search laws)
-    (λ c. search laws)
-    (λ c. search laws)
-    (λ c. search laws)
-    (λ c. search laws)
+    one-more
     (λ c. search laws)
     (λ c. search laws))

@@ -1,27 +1,75 @@
 -- `slim::slim` meets its contract. Assumes nothing.
 use borrow.Author.Needs.{needs}
 use Prim.Native.Nat.{_-_}
-use Rattle.slim.proofs.Slimming.{Slimming, slimming-none, slimming-look, slimming-part, slimming-keep, slimming-moves, slimming-full, slimming-else, slimming-count, slimming-bytes}
+use Rattle.slim.proofs.Slimming.{Slimming, slimming-none, slimming-look, slimming-filter, slimming-keep, slimming-moves, slimming-full, slimming-else, slimming-count, slimming-bytes}
 use Rattle.slim.proofs.slim.Statement.{statement}
 use Rattle.slim.proofs.slim.Tie as tie
 
-ruleset laws = (slimming-none, slimming-look, slimming-part, slimming-keep, slimming-moves, slimming-else, slimming-count, slimming-bytes, needs)
+ruleset laws = (slimming-none, slimming-look, slimming-count, slimming-bytes, needs)
 
 abbrev Inv-loop : tie.InvT-loop
-Inv-loop file n mode size pages₀ last₀ out₀ i₀ held₀ m₀ pages last out i held m = Slimming file n mode size pages₀ last₀ out₀ pages last out i held m
+Inv-loop file n mode size last₀ heads₀ next₀ out₀ i₀ held₀ base₀ m₀ last heads next out i held base m = Slimming file n mode size last₀ heads₀ next₀ out₀ last heads next out i held base m
 
 abbrev μ-loop : tie.MeasureT-loop
-μ-loop file n mode size pages₀ last₀ out₀ i₀ held₀ m₀ pages last out i held m = n - i
+μ-loop file n mode size last₀ heads₀ next₀ out₀ i₀ held₀ base₀ m₀ last heads next out i held base m = n - i
 
--- After a stretch that fills the filter the next begins with none of its pages.
-emptied : tie.Need-loop-again Inv-loop μ-loop
-emptied c =
-    let wrote = c .before .before .before in
-    let looked = wrote .before .before .before .before .before .before .before .before .before in
-    let sized = looked .before .before .before in
+-- The second pass follows the first.
+follows : tie.Need-keep-requires Inv-loop μ-loop
+follows c κs =
+    let looked = c .before .before .before .before .before .before .before .before .before .before in
+    let sized = looked .before .before .before .before in
     let turn = sized .before in
-    slimming-full (turn .before .loop .inv) (search) (turn .loop-test .taken) (sized .limit-of .ensures) (looked .look .ensures .0) (looked .look .ensures .1)
-    (looked .look .kept .1 .1 .1 .1 .0) (looked .look .kept .1 .1 .1 .1 .1 .0) (wrote .keep .ensures .0) (wrote .keep .ensures .1) (c .if1 .taken)
+    let same = looked .look .kept .1 .1 .1 .1 in
+    (slimming-keep (turn .before .loop .inv) (turn .loop-test .taken) (sized .limit-of .ensures) (looked .look .ensures .0) (looked .look .ensures .1) (same .0) (same .1 .1 .0) (same .1 .1 .1 .0), slimming-filter (turn .before .loop .inv) (turn .loop-test .taken) (sized .limit-of .ensures) (looked .look .ensures .0) (looked .look .ensures .1) (same .0) (same .1 .1 .0) (same .1 .1 .1 .0))
+
+-- A filter that is full may be emptied.
+may-empty : tie.Need-empty-requires Inv-loop μ-loop
+may-empty c κs =
+    let looked = c .before .before .before .before .before .before .before .before .before .before .before .before .before .before .before .before .before in
+    let sized = looked .before .before .before .before in
+    let turn = sized .before in
+    let same = looked .look .kept .1 .1 .1 .1 in
+    slimming-filter (turn .before .loop .inv) (turn .loop-test .taken) (sized .limit-of .ensures) (looked .look .ensures .0) (looked .look .ensures .1) (same .0) (same .1 .1 .0) (same .1 .1 .1 .0)
+
+-- Fewer items are left after a stretch that fills the filter, which the next begins with no page of,
+moves-full : tie.Need-loop-less Inv-loop μ-loop
+moves-full c =
+    let looked = c .before .before .before .before .before .before .before .before .before .before .before .before .before .before .before .before .before .before .before .before in
+    let sized = looked .before .before .before .before in
+    let turn = sized .before in
+    let same = looked .look .kept .1 .1 .1 .1 in
+    slimming-moves (turn .before .loop .inv) (turn .loop-test .taken) (sized .limit-of .ensures) (looked .look .ensures .0) (looked .look .ensures .1) (same .0) (same .1 .1 .0) (same .1 .1 .1 .0)
+
+goes-full : tie.Need-loop-again Inv-loop μ-loop
+goes-full c =
+    let emptied = c .before .before in
+    let full = emptied .before .before .before .before in
+    let wrote = full .before .before .before in
+    let looked = wrote .before .before .before .before .before .before .before .before .before .before .before in
+    let sized = looked .before .before .before .before in
+    let turn = sized .before in
+    let same = looked .look .kept .1 .1 .1 .1 in
+    slimming-full (turn .before .loop .inv) (turn .loop-test .taken) (sized .limit-of .ensures) (looked .look .ensures .0) (looked .look .ensures .1) (same .0) (same .1 .1 .0) (same .1 .1 .1 .0)
+    (wrote .keep .ensures .0) (wrote .keep .ensures .1) (full .if1 .taken) (emptied .empty .ensures) (emptied .empty .kept .1 .1 .1 .1 .0)
+
+-- and after one that does not.
+moves-else : tie.Need-loop-less-2 Inv-loop μ-loop
+moves-else c =
+    let looked = c .before .before .before .before .before .before .before .before .before .before .before .before .before .before in
+    let sized = looked .before .before .before .before in
+    let turn = sized .before in
+    let same = looked .look .kept .1 .1 .1 .1 in
+    slimming-moves (turn .before .loop .inv) (turn .loop-test .taken) (sized .limit-of .ensures) (looked .look .ensures .0) (looked .look .ensures .1) (same .0) (same .1 .1 .0) (same .1 .1 .1 .0)
+
+goes-else : tie.Need-loop-again-2 Inv-loop μ-loop
+goes-else c =
+    let wrote = c .before .before .before in
+    let looked = wrote .before .before .before .before .before .before .before .before .before .before .before in
+    let sized = looked .before .before .before .before in
+    let turn = sized .before in
+    let same = looked .look .kept .1 .1 .1 .1 in
+    slimming-else (turn .before .loop .inv) (turn .loop-test .taken) (sized .limit-of .ensures) (looked .look .ensures .0) (looked .look .ensures .1) (same .0) (same .1 .1 .0) (same .1 .1 .1 .0)
+    (wrote .keep .ensures .0) (wrote .keep .ensures .1) (c .if1 .left)
 
 pub slim-spec : {M : Type 1} → statement M
 slim-spec =
@@ -32,13 +80,12 @@ slim-spec =
     (λ c. search laws)
     (λ c κs. search laws)
     (λ c κs. search laws)
-    (λ c. search laws)
-    (λ c. search laws)
-    (λ c. search laws)
-    (λ c κs. search laws)
-    (λ c. search laws)
-    emptied
-    (λ c. search laws)
+    follows
+    may-empty
+    moves-full
+    goes-full
+    moves-else
+    goes-else
     (λ c. search laws)
     (λ c. search laws)
     (λ c. search laws)
