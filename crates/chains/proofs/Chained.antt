@@ -5,7 +5,7 @@ use mathlib.Core.Bool.{cond}
 use mathlib.Core.List.{List}
 use native.Mathlib.Omega.{arith}
 use lib.ListN.{length, getD, set, length-set, List·getD-eq-default, replicate, length-replicate, getD-replicate}
-use lib.Seq.{getD-set-same, getD-set-other}
+use lib.Seq.{getD-set-same, getD-set-other, ext-getD}
 use lib.Dec.{eqb, ltb}
 use borrow.Author.Tests.{ltb-true, ltb-false, eq-eqb, ne-eqb, eqb-false}
 use Rattle.pages.proofs.Choice.{split, same}
@@ -124,12 +124,11 @@ module _ {heads₀ heads : List ℕ} {i : ℕ} (c : Cleared heads₀ heads i) wh
         (λ e. let n = eqb-false v i e in getD-set-other heads i v 0 0 n ∙ c .are v (omega arith));
   }
 
-  pub cleared-all : length heads ≤ i → Low 0 heads
-  cleared-all o = record {
-    low = λ v. split (ltb v i)
-        (λ e. omega (arith, c .are v (ltb-true v i e)))
-        (λ e. let g = ltb-false v i e in omega (arith, List·getD-eq-default heads 0 {n = v} (omega arith)));
-  }
+  pub cleared-all : length heads ≤ i → heads ≡ replicate (length heads₀) 0
+  cleared-all o =
+      let e : length heads ≡ length {A = ℕ} (replicate (length heads₀) 0) = c .long ∙ sym (length-replicate (length heads₀) 0) in
+      ext-getD 0 heads (replicate (length heads₀) 0) e
+      (λ v l. c .are v (omega (arith, c .within)) ∙ sym (getD-replicate {A = ℕ} (length heads₀) v 0 0 (omega (arith, c .long))))
 
 -- Heads that are made of zeros are low.
 pub low-zeros : (n : ℕ) → Low 0 (replicate n 0)

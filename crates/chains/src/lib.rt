@@ -1,8 +1,8 @@
 // Chains: places in buckets, in two rows of two-byte numbers. What the places hold is the caller's.
 ghost use mathlib.Core.Path.{_≡_};
 ghost use Prim.Native.Nat.{_-_, _<_};
-ghost use lib.ListN.{length, getD};
-ghost use Rattle.chains.specs.Chains.{Low, CanPush, headsWith, nextWith, mixed};
+ghost use lib.ListN.{length, getD, replicate};
+ghost use Rattle.chains.specs.Chains.{CanPush, headsWith, nextWith, mixed};
 
 fn wide(x: u16) -> usize
     ensures { λ r. ⌜ r ≡ x ⌝ }
@@ -52,7 +52,7 @@ pub fn push(base: usize, heads: &mut [u16], next: &mut [u16], c: usize, v: usize
 
 // No bucket has a place.
 pub fn clear(heads: &mut [u16])
-    ensures { λ _. ⌜ Low 0 (now (heads .exit)) ⌝ }
+    ensures { λ _. ⌜ now (heads .exit) ≡ replicate (length (now (heads .entry))) 0 ⌝ }
 {
     let mut v = 0;
     while v < heads.len() {

@@ -5,15 +5,16 @@ use mathlib.Core.Bool.{true, false}
 use mathlib.Core.List.{List, [], _∷_, _++_}
 use native.Mathlib.Numerals.{add-one}
 use native.Mathlib.Omega.{arith}
-use lib.ListN.{length, getD, take, set, length-set, List·getD-append}
+use lib.ListN.{length, getD, set, length-set, List·getD-append, replicate, length-replicate}
 use lib.Seq.{getD-append-seam}
+use borrow.Author.Tests.{lt-ltb, le-ltb}
 use Rattle.pages.specs.Pages.{has, add}
 use Rattle.pages.proofs.Added.{add-new}
 use Rattle.trace.specs.Layout.{itemAt}
 use Rattle.trace.specs.declared.Item.{Item}
 use Rattle.chains.specs.Chains.{at, Low, CanPush, headsWith, nextWith}
-use Rattle.chains.proofs.Chained.{chained-none, chained-low, chained-more}
-use Rattle.filter.specs.Filter.{pagesOf, pagesIn, Notes, buckets, bucketOf, bucketAt, Holds, IsFilter, CanAdd}
+use Rattle.chains.proofs.Chained.{chained-none, chained-low, chained-more, low-zeros}
+use Rattle.filter.specs.Filter.{pagesOf, pagesIn, Notes, buckets, bucketOf, bucketAt, Holds, IsFilter, CanAdd, fitsAbove, emptyBase, emptyHeads}
 use Rattle.filter.proofs.Noting.{notes-long, notes-again, notes-more}
 use Rattle.filter.proofs.Finding.{bucket-below}
 
@@ -38,13 +39,22 @@ module _ {file last : List ℕ} {held base : ℕ} {heads next l : List ℕ} (f :
   pub holds-low : Low (base + held) heads
   holds-low = chained-low (f .chained)
 
-  -- The filter with no page, above what the heads say.
-  pub emptied-above : base + held + length last ≤ 65535 → Holds file last 0 (base + held) heads next []
-  emptied-above s = holds-none file last holds-low (f .heads-long) (f .next-long) s
+  -- The filter is emptied above what the heads say,
+  pub emptied-above : base + held + length last ≤ 65535
+      → (base + held ≡ emptyBase base held (length last)) × ((heads ≡ emptyHeads base held (length last) heads) × Holds file last 0 (base + held) heads next [])
+  unfolding fitsAbove emptyBase emptyHeads
+  emptied-above s =
+      let t = lt-ltb (base + held + length last) 65536 (omega arith) in
+      (rw t, (rw t, holds-none file last holds-low (f .heads-long) (f .next-long) s))
 
-  -- The filter with no page, with heads that are cleared.
-  pub emptied-clear : {heads′ : List ℕ} → Low 0 heads′ → length heads′ ≡ length heads → Holds file last 0 0 heads′ next []
-  emptied-clear w e = holds-none file last w (rw e (f .heads-long)) (f .next-long) (omega (arith, f .small))
+  -- or with heads that are cleared.
+  pub emptied-clear : 65535 < base + held + length last → {heads′ : List ℕ} → heads′ ≡ replicate (length heads) 0
+      → (0 ≡ emptyBase base held (length last)) × ((heads′ ≡ emptyHeads base held (length last) heads) × Holds file last 0 0 heads′ next [])
+  unfolding fitsAbove emptyBase emptyHeads
+  emptied-clear s e =
+      let t = le-ltb (base + held + length last) 65536 (omega arith) in
+      let w : buckets ≤ length {A = ℕ} (replicate (length heads) 0) = rw length-replicate (f .heads-long) in
+      (rw t, (rw t e, rw e (holds-none file last (low-zeros (length heads)) w (f .next-long) (omega (arith, f .small)))))
 
   module _ (k : ℕ) (readable : 23 + 19 * (k + 1) ≤ length file) where
     -- An item of a page that is held is noted in place of the one before it.
@@ -87,5 +97,6 @@ module _ {file last : List ℕ} {held base : ℕ} {heads next : List ℕ} {k : �
       record { bucket = rw q (omega (arith, bucket-below (x .page), f .heads-long)); room = omega (arith, c .room, f .next-long); small = omega (arith, c .room, f .small) }
 
   pub add-holds : {last′ heads′ next′ : List ℕ} → last′ ≡ set last held k → heads′ ≡ headsWith base held v heads → next′ ≡ nextWith base held v heads next
-      → Holds file last′ (held + 1) base heads′ next′ (add (itemAt file k .page) (pagesIn file last held))
-  add-holds a h n = rw (a, h, n, q, e) (holds-more (c .filter) k (c .readable) (c .room) (c .new))
+      → (last′ ≡ set last held k) × ((heads′ ≡ headsWith base held (bucketOf (itemAt file k .page)) heads) × ((next′ ≡ nextWith base held (bucketOf (itemAt file k .page)) heads next)
+      × Holds file last′ (held + 1) base heads′ next′ (add (itemAt file k .page) (pagesIn file last held))))
+  add-holds a h n = (a, (rw (q, e) at h, (rw (q, e) at n, rw (a, h, n, q, e) (holds-more (c .filter) k (c .readable) (c .room) (c .new)))))

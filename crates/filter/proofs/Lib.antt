@@ -1,3 +1,4 @@
 pub mod Noting
 pub mod Finding
 pub mod Filling
+pub mod Once

@@ -1,9 +1,10 @@
 -- The reducer's filter: a row of item numbers, one for each page that it holds, and chains by which a page is found. No page is stored: it is read from the file. Assumes nothing.
 use Prim.Native.Nat.{ℕ, _+_, _*_, _/_, _%_, _≤_, _<_}
 use mathlib.Core.Path.{_≡_}
-use mathlib.Core.Bool.{false}
+use mathlib.Core.Bool.{Bool, false, cond}
 use mathlib.Core.List.{List, map}
-use lib.ListN.{length, getD, take}
+use lib.ListN.{length, getD, take, replicate}
+use lib.Dec.{ltb}
 use Rattle.pages.specs.Pages.{has, Distinct}
 use Rattle.trace.specs.Layout.{itemAt}
 use Rattle.chains.specs.Chains.{at, Chained, mixed}
@@ -63,3 +64,17 @@ pub record CanAdd (file last : List ℕ) (held base : ℕ) (heads next : List �
   pub readable : 23 + 19 * (k + 1) ≤ length file
   pub few : k < 4294967296
   pub new : has (itemAt file k .page) (pagesIn file last held) ≡ false
+
+-- ---- emptying it
+
+-- Whether, above the places that are given up, there are numbers of two bytes for as many again as the filter has.
+unfoldable pub fitsAbove : ℕ → ℕ → ℕ → Bool
+fitsAbove base held places = ltb (base + held + places) 65536
+
+-- The base of the emptied filter: above all that the heads say, or 0.
+unfoldable pub emptyBase : ℕ → ℕ → ℕ → ℕ
+emptyBase base held places = cond (fitsAbove base held places) (base + held) 0
+
+-- Its heads: as they were, or cleared.
+unfoldable pub emptyHeads : ℕ → ℕ → ℕ → List ℕ → List ℕ
+emptyHeads base held places heads = cond (fitsAbove base held places) heads (replicate (length heads) 0)

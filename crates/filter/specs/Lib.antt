@@ -1,1 +1,2 @@
 pub mod Filter
+pub mod Examples

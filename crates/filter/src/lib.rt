@@ -7,7 +7,8 @@ ghost use lib.ListN.{length, getD, take, set};
 ghost use lib.Dec.{eqb};
 ghost use Rattle.pages.specs.Pages.{has, add as added, place};
 ghost use Rattle.trace.specs.Layout.{itemAt};
-ghost use Rattle.filter.specs.Filter.{pagesOf, pagesIn, Stands, Notes, buckets, bucketOf, Holds, IsFilter, CanAdd};
+ghost use Rattle.chains.specs.Chains.{headsWith, nextWith};
+ghost use Rattle.filter.specs.Filter.{pagesOf, pagesIn, Stands, Notes, buckets, bucketOf, Holds, IsFilter, CanAdd, emptyBase, emptyHeads};
 
 // How many heads there are. 1,024 of two bytes, with 1,024 places of four and two, make 8 KiB.
 pub const BUCKETS: usize = 1024;
@@ -133,9 +134,9 @@ pub fn is_noted(
 {
     let x = trace::read::item_at(file, k);
     let mut left = LINKS;
-    let mut e = chains::first(base, heads, bucket(x.page));
-    while 0 < e {
-        if note_at(last, e - 1) == k {
+    let mut at = chains::first(base, heads, bucket(x.page));
+    while 0 < at {
+        if note_at(last, at - 1) == k {
             return true;
         }
         if left == 0 {
@@ -146,7 +147,7 @@ pub fn is_noted(
             return note_at(last, j) == k;
         }
         left -= 1;
-        e = chains::before(next, e - 1);
+        at = chains::before(next, at - 1);
     }
     false
 }
@@ -163,6 +164,8 @@ pub fn add(
 )
     requires { ⌜ CanAdd (now file) (now last) held base (now heads) (now next) k ⌝ }
     ensures { λ _. ⌜ now (last .exit) ≡ set (now (last .entry)) held k ⌝ }
+    ensures { λ _. ⌜ now (heads .exit) ≡ headsWith base held (bucketOf (itemAt (now (file .entry)) k .page)) (now (heads .entry)) ⌝ }
+    ensures { λ _. ⌜ now (next .exit) ≡ nextWith base held (bucketOf (itemAt (now (file .entry)) k .page)) (now (heads .entry)) (now (next .entry)) ⌝ }
     ensures { λ _. ⌜ Holds (now (file .entry)) (now (last .exit)) (held + 1) base (now (heads .exit)) (now (next .exit)) (added (itemAt (now (file .entry)) k .page) (pagesIn (now (file .entry)) (now (last .entry)) held)) ⌝ }
 {
     let x = trace::read::item_at(file, k);
@@ -180,6 +183,8 @@ pub fn empty(
     next: &[u16],
 ) -> usize
     requires { ⌜ IsFilter (now file) (now last) held base (now heads) (now next) ⌝ }
+    ensures { λ r. ⌜ r ≡ emptyBase base held (length (now (last .entry))) ⌝ }
+    ensures { λ _. ⌜ now (heads .exit) ≡ emptyHeads base held (length (now (last .entry))) (now (heads .entry)) ⌝ }
     ensures { λ r. ⌜ Holds (now (file .entry)) (now (last .entry)) 0 r (now (heads .exit)) (now (next .entry)) [] ⌝ }
 {
     let above = base + held;

@@ -49,7 +49,7 @@ one-new c =
     let read = found .before .before .before .before in
     let turn = read .before in
     looking-new (turn .before .loop .inv) (turn .loop-test .taken) (read .item-at .ensures) (found .find .ensures) (new .before .if1 .left) (new .if2 .left)
-    (added .add .ensures .0) (added .add .ensures .1) (search) (search)
+    (added .add .ensures .0) (added .add .ensures .1 .1 .1) (search) (search)
 
 pub look-spec : {M : Type 1} → statement M
 look-spec =

@@ -50,7 +50,7 @@ goes-full c =
     let turn = sized .before in
     let same = looked .look .kept .1 .1 .1 .1 in
     slimming-full (turn .before .loop .inv) (turn .loop-test .taken) (sized .limit-of .ensures) (looked .look .ensures .0) (looked .look .ensures .1) (same .0) (same .1 .1 .0) (same .1 .1 .1 .0)
-    (wrote .keep .ensures .0) (wrote .keep .ensures .1) (full .if1 .taken) (emptied .empty .ensures) (emptied .empty .kept .1 .1 .1 .1 .0)
+    (wrote .keep .ensures .0) (wrote .keep .ensures .1) (full .if1 .taken) (emptied .empty .ensures .1 .1) (emptied .empty .kept .1 .1 .1 .1 .0)
 
 -- and after one that does not.
 moves-else : tie.Need-loop-less-2 Inv-loop μ-loop
