@@ -91,7 +91,8 @@ module _ {key m : ℕ → ℕ} {n k v : ℕ} where
         seeking-here q = turn ∙ rw (eq-eqb (key (e - 1)) k q)
 
         -- It has not: the search goes on before it.
-        pub seeking-more : (key (e - 1) ≡ k → ⊥) → {base : ℕ} {heads next : List ℕ} → Chained m n base heads next → {d : ℕ} → d ≡ getD next (e - 1) 0 → Seeking key m n k v d
+        pub seeking-more : (key (e - 1) ≡ k → ⊥) → {base : ℕ} {heads next : List ℕ} → Chained m n base heads next
+            → {d : ℕ} → d ≡ getD next (e - 1) 0 → Seeking key m n k v d
         seeking-more q c z = record {
           from = e - 1;
           within = omega (arith, seeking-within some);

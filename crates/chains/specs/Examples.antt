@@ -1,9 +1,7 @@
 -- Chains at work, computed: five places in buckets 2, 0, 2, 1, 2. Assumes nothing.
 use Prim.Native.Nat.{ℕ}
 use mathlib.Core.Path.{_≡_, refl}
-use mathlib.Core.Bool.{cond}
 use mathlib.Core.List.{List, [], _∷_, map}
-use lib.ListN.{set}
 use Rattle.chains.specs.Chains.{at, newest, headsWith, nextWith, mixed}
 
 marks : List ℕ

@@ -1,8 +1,8 @@
 -- A filter with a page more, with an item noted anew, and with no page. Assumes nothing.
-use Prim.Native.Nat.{ℕ, suc, _+_, _-_, _*_, _≤_, _<_}
+use Prim.Native.Nat.{ℕ, _+_, _-_, _*_, _≤_, _<_}
 use mathlib.Core.Path.{_≡_, refl}
-use mathlib.Core.Bool.{true, false}
-use mathlib.Core.List.{List, [], _∷_, _++_}
+use mathlib.Core.Bool.{false}
+use mathlib.Core.List.{List, [], _∷_}
 use native.Mathlib.Numerals.{add-one}
 use native.Mathlib.Omega.{arith}
 use lib.ListN.{length, getD, set, length-set, List·getD-append, replicate, length-replicate}
@@ -14,13 +14,13 @@ use Rattle.trace.specs.Layout.{itemAt}
 use Rattle.trace.specs.declared.Item.{Item}
 use Rattle.chains.specs.Chains.{at, Low, CanPush, headsWith, nextWith}
 use Rattle.chains.proofs.Chained.{chained-none, chained-low, chained-more, low-zeros}
-use Rattle.filter.specs.Filter.{pagesOf, pagesIn, Notes, buckets, bucketOf, bucketAt, Holds, IsFilter, CanAdd, fitsAbove, emptyBase, emptyHeads}
+use Rattle.filter.specs.Filter.{pagesOf, pagesIn, buckets, bucketOf, bucketAt, Holds, IsFilter, CanAdd, fitsAbove, emptyBase, emptyHeads}
 use Rattle.filter.proofs.Noting.{notes-long, notes-again, notes-more}
 use Rattle.filter.proofs.Finding.{bucket-below}
 
 -- No page: the heads may say anything up to base.
-pub holds-none : (file last : List ℕ) {base : ℕ} {heads next : List ℕ} → Low base heads → buckets ≤ length heads → length last ≤ length next → base + length last ≤ 65535
-    → Holds file last 0 base heads next []
+pub holds-none : (file last : List ℕ) {base : ℕ} {heads next : List ℕ} → Low base heads → buckets ≤ length heads → length last ≤ length next
+    → base + length last ≤ 65535 → Holds file last 0 base heads next []
 unfolding pagesOf
 holds-none file last {next = next} w h n s = record {
   notes = record { within = omega arith; readable = λ j o. absurd (omega arith); pages-are = refl; once = tt };
@@ -77,7 +77,8 @@ module _ {file last : List ℕ} {held base : ℕ} {heads next l : List ℕ} (f :
       unfolding at bucketAt
       bucket-new = rw (add-new (itemAt file k .page) l new, ← notes-long (f .notes), getD-append-seam)
 
-      pub holds-more : Holds file (set last held k) (held + 1) base (headsWith base held (bucketOf (itemAt file k .page)) heads) (nextWith base held (bucketOf (itemAt file k .page)) heads next) (add (itemAt file k .page) l)
+      pub holds-more : Holds file (set last held k) (held + 1) base (headsWith base held (bucketOf (itemAt file k .page)) heads)
+          (nextWith base held (bucketOf (itemAt file k .page)) heads next) (add (itemAt file k .page) l)
       holds-more = record {
         notes = notes-more (f .notes) k readable room new;
         chained = rw add-one (chained-more (f .chained) (bucketAt (add (itemAt file k .page) l)) (bucketOf (itemAt file k .page)) bucket-more bucket-new
@@ -89,7 +90,8 @@ module _ {file last : List ℕ} {held base : ℕ} {heads next l : List ℕ} (f :
 
 -- ---- as `add` does it
 
-module _ {file last : List ℕ} {held base : ℕ} {heads next : List ℕ} {k : ℕ} (c : CanAdd file last held base heads next k) {x : Item} (e : x ≡ itemAt file k) {v : ℕ} (q : v ≡ bucketOf (x .page)) where
+module _ {file last : List ℕ} {held base : ℕ} {heads next : List ℕ} {k : ℕ} (c : CanAdd file last held base heads next k)
+    {x : Item} (e : x ≡ itemAt file k) {v : ℕ} (q : v ≡ bucketOf (x .page)) where
   -- The place can be pushed.
   pub add-push : CanPush base held v heads next
   add-push =
@@ -97,6 +99,7 @@ module _ {file last : List ℕ} {held base : ℕ} {heads next : List ℕ} {k : �
       record { bucket = rw q (omega (arith, bucket-below (x .page), f .heads-long)); room = omega (arith, c .room, f .next-long); small = omega (arith, c .room, f .small) }
 
   pub add-holds : {last′ heads′ next′ : List ℕ} → last′ ≡ set last held k → heads′ ≡ headsWith base held v heads → next′ ≡ nextWith base held v heads next
-      → (last′ ≡ set last held k) × ((heads′ ≡ headsWith base held (bucketOf (itemAt file k .page)) heads) × ((next′ ≡ nextWith base held (bucketOf (itemAt file k .page)) heads next)
+      → (last′ ≡ set last held k) × ((heads′ ≡ headsWith base held (bucketOf (itemAt file k .page)) heads)
+      × ((next′ ≡ nextWith base held (bucketOf (itemAt file k .page)) heads next)
       × Holds file last′ (held + 1) base heads′ next′ (add (itemAt file k .page) (pagesIn file last held))))
   add-holds a h n = (a, (rw (q, e) at h, (rw (q, e) at n, rw (a, h, n, q, e) (holds-more (c .filter) k (c .readable) (c .room) (c .new)))))

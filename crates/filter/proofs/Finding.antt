@@ -158,7 +158,8 @@ module _ {file last : List ℕ} {held base : ℕ} {heads next l : List ℕ} (f :
 
 -- ---- by the place of the item's page
 
-module _ {file last : List ℕ} {held : ℕ} {l : List ℕ} (n : Notes file last held l) (k : ℕ) {x : Item} (e : x ≡ itemAt file k) {j : ℕ} (q : j ≡ place (x .page) l) where
+module _ {file last : List ℕ} {held : ℕ} {l : List ℕ} (n : Notes file last held l) (k : ℕ) {x : Item} (e : x ≡ itemAt file k)
+    {j : ℕ} (q : j ≡ place (x .page) l) where
   -- An item that is noted is noted at place j, which is one of those held.
   noted-at : has k (take held last) ≡ true → (getD last j 0 ≡ k) × (j < held)
   noted-at h = let g = notes-item n k h in (rw (q, e) (g .1), rw (q, e) (g .0))
@@ -170,6 +171,7 @@ module _ {file last : List ℕ} {held : ℕ} {l : List ℕ} (n : Notes file last
   -- A page that is held has its item noted at its place.
   pub noted-there : j < held → {i : ℕ} → i ≡ getD last j 0 → eqb i k ≡ has k (take held last)
   noted-there h {i} r =
+      let w : j < length (take held last) = rw (length-take-le held last (n .within)) h in
       split (has k (take held last))
       (λ t. eq-eqb i k (r ∙ noted-at t .0) ∙ sym t)
-      (λ t. ne-eqb i k (λ z. true≢false (sym (has-getD k (take held last) j (rw (length-take-le held last (n .within)) h) (getD-take held last j 0 h ∙ sym r ∙ z)) ∙ t)) ∙ sym t)
+      (λ t. ne-eqb i k (λ z. true≢false (sym (has-getD k (take held last) j w (getD-take held last j 0 h ∙ sym r ∙ z)) ∙ t)) ∙ sym t)

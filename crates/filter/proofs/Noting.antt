@@ -1,21 +1,21 @@
 -- Places that note items of a file, and the pages that so are held. Assumes nothing.
 use Prim.Native.Nat.{ℕ, zero, suc, _+_, _*_, _≤_, _<_}
-use mathlib.Core.Path.{_≡_, refl, sym, ap, _∙_}
+use mathlib.Core.Path.{_≡_, refl, sym, _∙_}
 use mathlib.Core.Bool.{true, false}
-use mathlib.Core.List.{List, [], _∷_, _++_, map, map-append}
+use mathlib.Core.List.{List, [], _∷_, map-append}
 use native.Mathlib.Numerals.{add-one}
 use native.Mathlib.Omega.{arith}
 use lib.ListN.{length, getD, take, set, length-map, length-set}
 use lib.Seq.{length-take-le, getD-take, take-set-lt, take-suc-set, map-set-same, getD-set-same, getD-set-other}
-use lib.Dec.{eqb, ltb}
-use borrow.Author.Tests.{ltb-true, ltb-false, eq-eqb, ne-eqb, eqb-false}
-use Rattle.pages.specs.Pages.{has, add, place, Distinct}
+use lib.Dec.{eqb}
+use borrow.Author.Tests.{eq-eqb, ne-eqb, eqb-false}
+use Rattle.pages.specs.Pages.{has, add, place}
 use Rattle.pages.proofs.Choice.{split, same}
 use Rattle.pages.proofs.Added.{add-new, distinct-add}
 use Rattle.pages.proofs.Table.{place-within, getD-place, place-alone}
 use Rattle.trace.specs.Layout.{itemAt}
 use Rattle.trace.specs.declared.Item.{Item}
-use Rattle.filter.specs.Filter.{pagesOf, pagesIn, Stands, Notes}
+use Rattle.filter.specs.Filter.{pagesOf, Stands, Notes}
 
 module _ (file : List ℕ) where
   getD-pages : (items : List ℕ) (j : ℕ) → j < length items → getD (pagesOf file items) j 0 ≡ itemAt file (getD items j 0) .page

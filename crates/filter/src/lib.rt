@@ -8,7 +8,7 @@ ghost use lib.Dec.{eqb};
 ghost use Rattle.pages.specs.Pages.{has, add as added, place};
 ghost use Rattle.trace.specs.Layout.{itemAt};
 ghost use Rattle.chains.specs.Chains.{headsWith, nextWith};
-ghost use Rattle.filter.specs.Filter.{pagesOf, pagesIn, Stands, Notes, buckets, bucketOf, Holds, IsFilter, CanAdd, emptyBase, emptyHeads};
+ghost use Rattle.filter.specs.Filter.{pagesIn, Stands, Notes, buckets, bucketOf, Holds, IsFilter, CanAdd, emptyBase, emptyHeads};
 
 // How many heads there are. 1,024 of two bytes, with 1,024 places of four and two, make 8 KiB.
 pub const BUCKETS: usize = 1024;
@@ -166,7 +166,8 @@ pub fn add(
     ensures { λ _. ⌜ now (last .exit) ≡ set (now (last .entry)) held k ⌝ }
     ensures { λ _. ⌜ now (heads .exit) ≡ headsWith base held (bucketOf (itemAt (now (file .entry)) k .page)) (now (heads .entry)) ⌝ }
     ensures { λ _. ⌜ now (next .exit) ≡ nextWith base held (bucketOf (itemAt (now (file .entry)) k .page)) (now (heads .entry)) (now (next .entry)) ⌝ }
-    ensures { λ _. ⌜ Holds (now (file .entry)) (now (last .exit)) (held + 1) base (now (heads .exit)) (now (next .exit)) (added (itemAt (now (file .entry)) k .page) (pagesIn (now (file .entry)) (now (last .entry)) held)) ⌝ }
+    ensures { λ _. ⌜ Holds (now (file .entry)) (now (last .exit)) (held + 1) base (now (heads .exit)) (now (next .exit))
+        (added (itemAt (now (file .entry)) k .page) (pagesIn (now (file .entry)) (now (last .entry)) held)) ⌝ }
 {
     let x = trace::read::item_at(file, k);
     chains::push(base, heads, next, held, bucket(x.page));

@@ -1,12 +1,10 @@
--- Places in a list of pages: where a page stands, after a page more, and after a store behind the pages that a buffer holds. Assumes nothing.
-use Prim.Native.Nat.{ℕ, zero, suc, _+_, _≤_, _<_}
+-- Places in a list of pages: where a page stands, after a page more, and where no page stands twice. Assumes nothing.
+use Prim.Native.Nat.{ℕ, zero, suc, _≤_, _<_}
 use mathlib.Core.Path.{_≡_, sym, ap, _∙_}
 use mathlib.Core.Bool.{true, false, or-true, true≢false, false≢true}
 use mathlib.Core.List.{List, [], _∷_, _++_}
-use native.Mathlib.Numerals.{add-one}
 use native.Mathlib.Omega.{arith}
-use lib.ListN.{length, getD, take, set}
-use lib.Seq.{take-suc-set}
+use lib.ListN.{length, getD, take}
 use lib.Dec.{ltb, eqb, leb·suc-suc}
 use borrow.Author.Tests.{ltb-true, lt-ltb, le-ltb, eq-eqb, ne-eqb}
 use Rattle.pages.specs.Pages.{has, add, place, Distinct}
@@ -65,10 +63,6 @@ pub place-same : (p q : ℕ) (l : List ℕ) → has q l ≡ true → place q l �
 place-same p q l h e =
     let g : has p l ≡ true = has-within p l (rw e at (place-within q l h)) in
     sym (getD-place q l h) ∙ ap (λ (i : ℕ). getD l i 0) e ∙ getD-place p l g
-
--- A buffer's first m pages with a new page added are its first m + 1, once the page is stored after them.
-pub add-store : (p m : ℕ) (l : List ℕ) → m < length l → has p (take m l) ≡ false → take (m + 1) (set l m p) ≡ add p (take m l)
-add-store p m l h n = rw (add-one, add-new p (take m l) n) (take-suc-set l m p h)
 
 -- A page is among the first c places exactly if its place is below c.
 pub has-taken : (p c : ℕ) (l : List ℕ) → c ≤ length l → has p (take c l) ≡ ltb (place p l) c

@@ -67,7 +67,8 @@ module _ {F last : List ℕ} {k c : ℕ} {x : Item} {v : List Item} (l : Left F 
   after = l .filter-is
 
   -- A turn keeps what `keeps` says.
-  turn : {c′ : ℕ} (a : List Item) → length (add (x .page) (take c F)) ≡ c′ → ((u : List Item) → consIf (keeps Demand (take c F) x v) x u ≡ a ++ u) → Turn F last k c x v c′ a
+  turn : {c′ : ℕ} (a : List Item) → length (add (x .page) (take c F)) ≡ c′ → ((u : List Item) → consIf (keeps Demand (take c F) x v) x u ≡ a ++ u)
+      → Turn F last k c x v c′ a
   unfolding has pages lastPlace kept
   turn {c′} a e f =
       let s = add (x .page) (take c F) in
@@ -156,7 +157,8 @@ keeping-none {done = done} {out = out} p = record {
   out-long = refl;
 }
 
-module _ {file : List ℕ} {from end held done : ℕ} {filter last out₀ : List ℕ} {k c m : ℕ} {out : List ℕ} (r : Keeping file from end held done filter last out₀ k c m out) where
+module _ {file : List ℕ} {from end held done : ℕ} {filter last out₀ : List ℕ} {k c m : ℕ} {out : List ℕ}
+    (r : Keeping file from end held done filter last out₀ k c m out) where
   module _ (h : k < end) {x : Item} (e : x ≡ itemAt file k) where
     -- What is left is the item that was read, and what is left after it.
     rest : itemsFrom file k (end - k) ≡ x ∷ itemsFrom file (k + 1) (end - (k + 1))
@@ -166,8 +168,8 @@ module _ {file : List ℕ} {from end held done : ℕ} {filter last out₀ : List
     here = rw rest at (r .left)
 
     -- A turn is done that keeps the items a.
-    passed : {c′ m′ : ℕ} {a : List Item} {out′ : List ℕ} → Turn filter last k c x (itemsFrom file (k + 1) (end - (k + 1))) c′ a → Wrote m a out out′ → m′ ≡ m + length a → length a ≤ 1
-        → Keeping file from end held done filter last out₀ (k + 1) c′ m′ out′
+    passed : {c′ m′ : ℕ} {a : List Item} {out′ : List ℕ} → Turn filter last k c x (itemsFrom file (k + 1) (end - (k + 1))) c′ a → Wrote m a out out′
+        → m′ ≡ m + length a → length a ≤ 1 → Keeping file from end held done filter last out₀ (k + 1) c′ m′ out′
     passed {a = a} t w n s = record {
       within = omega arith;
       left = t .next;
@@ -186,7 +188,8 @@ module _ {file : List ℕ} {from end held done : ℕ} {filter last out₀ : List
 
     module _ {b : Bool} (q : b ≡ eqb (place (x .page) filter) c) where
       -- The item is the first of its page, and is written.
-      pub keeping-new : b ≡ true → {out′ : List ℕ} → out′ ≡ sets out (23 + 19 * m) (encodeItem x) → Keeping file from end held done filter last out₀ (k + 1) (c + 1) (m + 1) out′
+      pub keeping-new : b ≡ true → {out′ : List ℕ} → out′ ≡ sets out (23 + 19 * m) (encodeItem x)
+          → Keeping file from end held done filter last out₀ (k + 1) (c + 1) (m + 1) out′
       keeping-new t w = passed (turn-new here refl (omega (arith, same _ c (sym q ∙ t)))) (wrote-one w) (omega arith) (omega arith)
 
       module _ (t : b ≡ false) {holds : ℕ} (n : Notes file last holds filter) {d : Bool} (p : d ≡ has k (take holds last)) where
@@ -201,7 +204,8 @@ module _ {file : List ℕ} {from end held done : ℕ} {filter last out₀ : List
         told = noted-there n k e refl (omega (arith, before, here .before, notes-long n)) refl ∙ sym p
 
         -- The item is the last of its page, and is written.
-        pub keeping-last : d ≡ true → {out′ : List ℕ} → out′ ≡ sets out (23 + 19 * m) (encodeItem x) → Keeping file from end held done filter last out₀ (k + 1) c (m + 1) out′
+        pub keeping-last : d ≡ true → {out′ : List ℕ} → out′ ≡ sets out (23 + 19 * m) (encodeItem x)
+            → Keeping file from end held done filter last out₀ (k + 1) c (m + 1) out′
         keeping-last y w = passed (turn-last here refl before (same _ k (told ∙ y))) (wrote-one w) (omega arith) (omega arith)
 
         -- It is neither the first nor the last.

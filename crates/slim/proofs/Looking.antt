@@ -53,7 +53,8 @@ looking-none file n from most held last base heads next can =
       last-noted = rw e (λ p h. absurd (false≢true h));
     }
 
-module _ {file : List ℕ} {n from most held base : ℕ} {last₀ heads₀ next₀ last heads next : List ℕ} {k c : ℕ} (r : Looking file n from most held base last₀ heads₀ next₀ last heads next k c) where
+module _ {file : List ℕ} {n from most held base : ℕ} {last₀ heads₀ next₀ last heads next : List ℕ} {k c : ℕ}
+    (r : Looking file n from most held base last₀ heads₀ next₀ last heads next k c) where
   -- The pages of the filter.
   F : List ℕ
   F = touched (pagesIn file last₀ held) (itemsFrom file from (k - from))
@@ -80,7 +81,8 @@ module _ {file : List ℕ} {n from most held base : ℕ} {last₀ heads₀ next�
   room = rw (r .last-long) (r .can .room)
 
   -- An item more is passed, whose page is added to the filter, and whose number is noted at the page's place.
-  more : {heads′ next′ : List ℕ} (c′ j : ℕ) → length heads′ ≡ length heads → length next′ ≡ length next → k < n → Holds file (set last j k) c′ base heads′ next′ (add (itemAt file k .page) F) → c′ ≤ most → j < length last
+  more : {heads′ next′ : List ℕ} (c′ j : ℕ) → length heads′ ≡ length heads → length next′ ≡ length next → k < n
+      → Holds file (set last j k) c′ base heads′ next′ (add (itemAt file k .page) F) → c′ ≤ most → j < length last
       → j ≡ place (itemAt file k .page) F → Looking file n from most held base last₀ heads₀ next₀ (set last j k) heads′ next′ (k + 1) c′
   unfolding touched F
   more c′ j hl nl h y g l f =
@@ -135,8 +137,9 @@ module _ {file : List ℕ} {n from most held base : ℕ} {last₀ heads₀ next�
       }
 
       -- It is passed.
-      pub looking-new : c < most → {last′ heads′ next′ : List ℕ} → last′ ≡ set last c k → Holds file last′ (c + 1) base heads′ next′ (add (itemAt file k .page) (pagesIn file last c))
-          → length heads′ ≡ length heads → length next′ ≡ length next → Looking file n from most held base last₀ heads₀ next₀ last′ heads′ next′ (k + 1) (c + 1)
+      pub looking-new : c < most → {last′ heads′ next′ : List ℕ} → last′ ≡ set last c k
+          → Holds file last′ (c + 1) base heads′ next′ (add (itemAt file k .page) (pagesIn file last c)) → length heads′ ≡ length heads
+          → length next′ ≡ length next → Looking file n from most held base last₀ heads₀ next₀ last′ heads′ next′ (k + 1) (c + 1)
       unfolding F
       looking-new o a b hl nl =
           let i : c ≡ place (itemAt file k .page) F = omega (arith, filled, found, place-most (itemAt file k .page) F) in

@@ -1,14 +1,12 @@
 -- The loop over the stretches: what holds before each, and how a stretch carries it on. Assumes nothing.
-use Prim.Native.Nat.{ℕ, zero, suc, _+_, _-_, _*_, _≤_, _<_}
-use mathlib.Core.Path.{_≡_, refl, sym, ap, _∙_, subst}
-use mathlib.Core.Bool.{true, or-true}
+use Prim.Native.Nat.{ℕ, _+_, _-_, _*_, _≤_, _<_}
+use mathlib.Core.Path.{_≡_, refl, sym, ap, _∙_}
 use mathlib.Core.List.{List, [], _∷_, _++_, append-assoc, append-nil}
 use native.Mathlib.Nat.{sub-zero, zero-add}
 use native.Mathlib.Omega.{arith}
 use lib.ListN.{length, take, drop, length-append}
-use lib.Seq.{sets, length-take-le, drop-append-seam}
+use lib.Seq.{sets, drop-append-seam}
 use Rattle.pages.specs.Rows.{flat}
-use Rattle.pages.specs.Pages.{has}
 use Rattle.filter.specs.Filter.{pagesOf, pagesIn, Holds, IsFilter}
 use Rattle.filter.proofs.Noting.{notes-long}
 use Rattle.filter.proofs.Filling.{holds-in}
@@ -16,15 +14,15 @@ use Rattle.trace.specs.Layout.{itemAt, itemsFrom, encodeItems}
 use Rattle.trace.specs.declared.Item.{Item}
 use Rattle.trace.proofs.Items.{length-from, from-turn, from-none, from-split}
 use Rattle.trace.proofs.Output.{Wrote, wrote-none, wrote-then, wrote-long}
-use Rattle.slim.specs.English.{Sub}
-use Rattle.slim.specs.Epochs.{pages, touched, Cut, cut}
+use Rattle.slim.specs.Epochs.{touched, cut}
 use Rattle.slim.specs.Keep.{kept, reduce}
 use Rattle.slim.specs.Passes.{limit, CanLook, Looked, Within, CanKeep, keptThere, CanSlim}
 use Rattle.slim.specs.declared.Mode.{Mode}
 use Rattle.slim.specs.declared.Mode.the-variants.{FastSlim, Demand}
 use Rattle.slim.specs.declared.Reach.{Reach}
-use Rattle.slim.proofs.Greedy.{cut-flat, has-touched}
-use Rattle.slim.proofs.Stretch.{reduceFrom, reduce-start, Ready, ready-start, stretch, beyond, emptied, emptied-full, emptied-else, stretch-some, stretch-ready, stretch-kept}
+use Rattle.slim.proofs.Greedy.{cut-flat}
+use Rattle.slim.proofs.Stretch.{reduceFrom, reduce-start, Ready, ready-start, stretch, beyond, emptied, emptied-full, emptied-else}
+use Rattle.slim.proofs.Stretch.{stretch-some, stretch-ready, stretch-kept}
 use Rattle.slim.proofs.Kept.{kept-sub}
 use Rattle.slim.proofs.Order.{sub-length}
 use Rattle.slim.proofs.Keeping.{filter-grows, filter-begins}
@@ -70,7 +68,8 @@ slimming-none file n mode size last heads next out c = record {
 -- ---- a stretch
 
 -- What a stretch may leave in the filter is no more than its size.
-limit-within : (m : Mode) (B held : ℕ) (seen : List ℕ) (i : Item) (t : List Item) → length seen ≡ held → held ≤ B → Ready m B seen (i ∷ t) → (held ≤ limit m B held) × (limit m B held ≤ B)
+limit-within : (m : Mode) (B held : ℕ) (seen : List ℕ) (i : Item) (t : List Item) → length seen ≡ held → held ≤ B → Ready m B seen (i ∷ t)
+    → (held ≤ limit m B held) × (limit m B held ≤ B)
 unfolding limit
 limit-within Demand B held seen i t e h r = (h, omega arith)
 limit-within FastSlim B held seen i t e h r = (omega arith, omega arith)
@@ -158,13 +157,19 @@ module _ {file : List ℕ} {n : ℕ} {mode : Mode} {size : ℕ} {last₀ heads�
         kept-is : keptThere file i (r .end) held (pagesIn file last′ (r .held)) ≡ kept Demand (pagesIn file last held) (itemsFrom file i (r .end - i))
         kept-is =
             let F = pagesIn file last′ (r .held) in
-            let begins : take held F ≡ pagesIn file last held = ap (λ (h : ℕ). take h F) (sym seen-long) ∙ filter-begins F (pagesIn file last held) (itemsFrom file i (r .end - i)) filter-is in
+            let after = filter-begins F (pagesIn file last held) (itemsFrom file i (r .end - i)) filter-is in
+            let begins : take held F ≡ pagesIn file last held = ap (λ (h : ℕ). take h F) (sym seen-long) ∙ after in
             rw begins
 
-        go-on : (held′ : ℕ) {base′ : ℕ} {heads″ : List ℕ} → IsFilter file last′ held′ base′ heads″ next′ → length heads″ ≡ length heads′ → held′ ≤ size
-            → pagesIn file last′ held′ ≡ emptied size (pagesIn file last′ (r .held)) → Slimming file n mode size last₀ heads₀ next₀ out₀ last′ heads″ next′ out′ (r .end) held′ base′ m′
+        go-on : (held′ : ℕ) {base′ : ℕ} {heads″ : List ℕ} → IsFilter file last′ held′ base′ heads″ next′ → length heads″ ≡ length heads′
+            → held′ ≤ size → pagesIn file last′ held′ ≡ emptied size (pagesIn file last′ (r .held))
+            → Slimming file n mode size last₀ heads₀ next₀ out₀ last′ heads″ next′ out′ (r .end) held′ base′ m′
         go-on held′ a hl′ h e =
-            let wr : Wrote 0 (s .so-far ++ kept Demand (pagesIn file last held) (itemsFrom file i (r .end - i))) out₀ out′ = wrote-then (s .wrote) (s .count ∙ sym (zero-add (length (s .so-far)))) (record { bytes-are = rw (← kept-is) o }) in
+            let seen = pagesIn file last held in
+            let left = itemsFrom file i (n - i) in
+            let all = stretch-kept mode size (s .can .some) seen left (s .ready) in
+            let wr : Wrote 0 (s .so-far ++ kept Demand seen (itemsFrom file i (r .end - i))) out₀ out′ =
+            wrote-then (s .wrote) (s .count ∙ sym (zero-add (length (s .so-far)))) (record { bytes-are = rw (← kept-is) o }) in
             record {
               can = s .can;
               within = w .ends;
@@ -174,12 +179,12 @@ module _ {file : List ℕ} {n : ℕ} {mode : Mode} {size : ℕ} {last₀ heads�
               next-long = nl ∙ s .next-long;
               out-long = wrote-long wr;
               filter = a;
-              ready = rw (e, filter-is, ← stretch-eq, ← beyond-eq) (stretch-ready mode size (s .can .some) (pagesIn file last held) (itemsFrom file i (n - i)) (s .ready));
-              so-far = s .so-far ++ kept Demand (pagesIn file last held) (itemsFrom file i (r .end - i));
+              ready = rw (e, filter-is, ← stretch-eq, ← beyond-eq) (stretch-ready mode size (s .can .some) seen left (s .ready));
+              so-far = s .so-far ++ kept Demand seen (itemsFrom file i (r .end - i));
               wrote = wr;
               count = c ∙ rw (kept-is, length-append, s .count);
-              few = omega (arith, ap length kept-is, sub-length (kept-sub Demand (pagesIn file last held) (itemsFrom file i (r .end - i))), length-from file i (r .end - i));
-              all = rw (append-assoc, e, filter-is, ← stretch-eq, ← beyond-eq, ← stretch-kept mode size (s .can .some) (pagesIn file last held) (itemsFrom file i (n - i)) (s .ready)) (s .all);
+              few = omega (arith, ap length kept-is, sub-length (kept-sub Demand seen (itemsFrom file i (r .end - i))), length-from file i (r .end - i));
+              all = rw (append-assoc, e, filter-is, ← stretch-eq, ← beyond-eq, ← all) (s .all);
             }
 
         -- The filter is full, and is emptied.
@@ -189,7 +194,10 @@ module _ {file : List ℕ} {n : ℕ} {mode : Mode} {size : ℕ} {last₀ heads�
 
         -- It is not, and goes on.
         pub slimming-else : (r .held ≡ size → ⊥) → Slimming file n mode size last₀ heads₀ next₀ out₀ last′ heads′ next′ out′ (r .end) (r .held) base m′
-        slimming-else g = let b = bounds in go-on (r .held) slimming-filter refl (omega arith) (sym (emptied-else size (pagesIn file last′ (r .held)) (λ f. g (sym held-long ∙ f))))
+        slimming-else g =
+            let b = bounds in
+            let same = emptied-else size (pagesIn file last′ (r .held)) (λ f. g (sym held-long ∙ f)) in
+            go-on (r .held) slimming-filter refl (omega arith) (sym same)
 
 -- ---- all stretches are done
 

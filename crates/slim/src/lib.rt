@@ -59,7 +59,8 @@ fn look(
     held: usize,
 ) -> Reach
     requires { ⌜ CanLook (now file) n from most held (now last) base (now heads) (now next) ⌝ }
-    ensures { λ r. ⌜ Looked (now (file .entry)) n from most (pagesIn (now (file .entry)) (now (last .entry)) held) r (now (last .exit)) base (now (heads .exit)) (now (next .exit)) ⌝ }
+    ensures { λ r. ⌜ Looked (now (file .entry)) n from most (pagesIn (now (file .entry)) (now (last .entry)) held) r
+        (now (last .exit)) base (now (heads .exit)) (now (next .exit)) ⌝ }
     ensures { λ r. ⌜ Within n from most r ⌝ }
 {
     let mut k = from;
@@ -100,7 +101,8 @@ fn keep(
     requires { ⌜ CanKeep (now file) from end held done (pagesIn (now file) (now last) holds) (now last) (now out) ⌝ }
     requires { ⌜ IsFilter (now file) (now last) holds base (now heads) (now next) ⌝ }
     ensures { λ r. ⌜ r ≡ done + length (keptThere (now (file .entry)) from end held (pagesIn (now (file .entry)) (now (last .entry)) holds)) ⌝ }
-    ensures { λ _. ⌜ now (out .exit) ≡ sets (now (out .entry)) (23 + 19 * done) (encodeItems (keptThere (now (file .entry)) from end held (pagesIn (now (file .entry)) (now (last .entry)) holds))) ⌝ }
+    ensures { λ _. ⌜ now (out .exit) ≡ sets (now (out .entry)) (23 + 19 * done)
+        (encodeItems (keptThere (now (file .entry)) from end held (pagesIn (now (file .entry)) (now (last .entry)) holds))) ⌝ }
 {
     let mut k = from;
     let mut c = held;

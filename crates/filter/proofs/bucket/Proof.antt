@@ -1,6 +1,5 @@
 -- `filter::bucket` meets its contract. Assumes nothing.
 use borrow.Author.Needs.{needs}
-use Rattle.filter.specs.Filter.{bucketOf}
 use Rattle.filter.proofs.Finding.{bucket-is}
 use Rattle.filter.proofs.bucket.Statement.{statement}
 use Rattle.filter.proofs.bucket.Tie as tie

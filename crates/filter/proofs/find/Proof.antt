@@ -17,7 +17,8 @@ abbrev μ-loop : tie.MeasureT-loop
 here : tie.Need-returns Inv-loop μ-loop
 here c =
     let turn = c .before .before in
-    find-here (turn .before .before .before .before .before .before .before .before .pre) (turn .before .loop .inv) (turn .loop-test .taken) (c .before .page-at .ensures) (c .if1 .taken)
+    let start = turn .before .before .before .before .before .before .before .before in
+    find-here (start .pre) (turn .before .loop .inv) (turn .loop-test .taken) (c .before .page-at .ensures) (c .if1 .taken)
 
 pub find-spec : {M : Type 1} → statement M
 find-spec =

@@ -1,14 +1,16 @@
 -- `slim::slim` meets its contract. Assumes nothing.
 use borrow.Author.Needs.{needs}
 use Prim.Native.Nat.{_-_}
-use Rattle.slim.proofs.Slimming.{Slimming, slimming-none, slimming-look, slimming-filter, slimming-keep, slimming-moves, slimming-full, slimming-else, slimming-count, slimming-bytes}
+use Rattle.slim.proofs.Slimming.{Slimming, slimming-none, slimming-look, slimming-filter, slimming-keep, slimming-moves}
+use Rattle.slim.proofs.Slimming.{slimming-full, slimming-else, slimming-count, slimming-bytes}
 use Rattle.slim.proofs.slim.Statement.{statement}
 use Rattle.slim.proofs.slim.Tie as tie
 
 ruleset laws = (slimming-none, slimming-look, slimming-count, slimming-bytes, needs)
 
 abbrev Inv-loop : tie.InvT-loop
-Inv-loop file n mode size last₀ heads₀ next₀ out₀ i₀ held₀ base₀ m₀ last heads next out i held base m = Slimming file n mode size last₀ heads₀ next₀ out₀ last heads next out i held base m
+Inv-loop file n mode size last₀ heads₀ next₀ out₀ i₀ held₀ base₀ m₀ last heads next out i held base m =
+    Slimming file n mode size last₀ heads₀ next₀ out₀ last heads next out i held base m
 
 abbrev μ-loop : tie.MeasureT-loop
 μ-loop file n mode size last₀ heads₀ next₀ out₀ i₀ held₀ base₀ m₀ last heads next out i held base m = n - i
@@ -20,7 +22,11 @@ follows c κs =
     let sized = looked .before .before .before .before in
     let turn = sized .before in
     let same = looked .look .kept .1 .1 .1 .1 in
-    (slimming-keep (turn .before .loop .inv) (turn .loop-test .taken) (sized .limit-of .ensures) (looked .look .ensures .0) (looked .look .ensures .1) (same .0) (same .1 .1 .0) (same .1 .1 .1 .0), slimming-filter (turn .before .loop .inv) (turn .loop-test .taken) (sized .limit-of .ensures) (looked .look .ensures .0) (looked .look .ensures .1) (same .0) (same .1 .1 .0) (same .1 .1 .1 .0))
+    let at = turn .before .loop .inv in
+    let l = looked .look .ensures in (
+      slimming-keep at (turn .loop-test .taken) (sized .limit-of .ensures) (l .0) (l .1) (same .0) (same .1 .1 .0) (same .1 .1 .1 .0),
+      slimming-filter at (turn .loop-test .taken) (sized .limit-of .ensures) (l .0) (l .1) (same .0) (same .1 .1 .0) (same .1 .1 .1 .0),
+    )
 
 -- A filter that is full may be emptied.
 may-empty : tie.Need-empty-requires Inv-loop μ-loop
@@ -29,16 +35,19 @@ may-empty c κs =
     let sized = looked .before .before .before .before in
     let turn = sized .before in
     let same = looked .look .kept .1 .1 .1 .1 in
-    slimming-filter (turn .before .loop .inv) (turn .loop-test .taken) (sized .limit-of .ensures) (looked .look .ensures .0) (looked .look .ensures .1) (same .0) (same .1 .1 .0) (same .1 .1 .1 .0)
+    slimming-filter (turn .before .loop .inv) (turn .loop-test .taken) (sized .limit-of .ensures)
+    (looked .look .ensures .0) (looked .look .ensures .1) (same .0) (same .1 .1 .0) (same .1 .1 .1 .0)
 
--- Fewer items are left after a stretch that fills the filter, which the next begins with no page of,
+-- Fewer items are left after a stretch that fills the filter, and the next begins with no page;
 moves-full : tie.Need-loop-less Inv-loop μ-loop
 moves-full c =
-    let looked = c .before .before .before .before .before .before .before .before .before .before .before .before .before .before .before .before .before .before .before .before in
+    let wrote = c .before .before .before .before .before .before .before .before .before in
+    let looked = wrote .before .before .before .before .before .before .before .before .before .before .before in
     let sized = looked .before .before .before .before in
     let turn = sized .before in
     let same = looked .look .kept .1 .1 .1 .1 in
-    slimming-moves (turn .before .loop .inv) (turn .loop-test .taken) (sized .limit-of .ensures) (looked .look .ensures .0) (looked .look .ensures .1) (same .0) (same .1 .1 .0) (same .1 .1 .1 .0)
+    slimming-moves (turn .before .loop .inv) (turn .loop-test .taken) (sized .limit-of .ensures)
+    (looked .look .ensures .0) (looked .look .ensures .1) (same .0) (same .1 .1 .0) (same .1 .1 .1 .0)
 
 goes-full : tie.Need-loop-again Inv-loop μ-loop
 goes-full c =
@@ -49,17 +58,19 @@ goes-full c =
     let sized = looked .before .before .before .before in
     let turn = sized .before in
     let same = looked .look .kept .1 .1 .1 .1 in
-    slimming-full (turn .before .loop .inv) (turn .loop-test .taken) (sized .limit-of .ensures) (looked .look .ensures .0) (looked .look .ensures .1) (same .0) (same .1 .1 .0) (same .1 .1 .1 .0)
+    slimming-full (turn .before .loop .inv) (turn .loop-test .taken) (sized .limit-of .ensures)
+    (looked .look .ensures .0) (looked .look .ensures .1) (same .0) (same .1 .1 .0) (same .1 .1 .1 .0)
     (wrote .keep .ensures .0) (wrote .keep .ensures .1) (full .if1 .taken) (emptied .empty .ensures .1 .1) (emptied .empty .kept .1 .1 .1 .1 .0)
 
--- and after one that does not.
+-- fewer are left after one that does not, and the next goes on with its pages.
 moves-else : tie.Need-loop-less-2 Inv-loop μ-loop
 moves-else c =
     let looked = c .before .before .before .before .before .before .before .before .before .before .before .before .before .before in
     let sized = looked .before .before .before .before in
     let turn = sized .before in
     let same = looked .look .kept .1 .1 .1 .1 in
-    slimming-moves (turn .before .loop .inv) (turn .loop-test .taken) (sized .limit-of .ensures) (looked .look .ensures .0) (looked .look .ensures .1) (same .0) (same .1 .1 .0) (same .1 .1 .1 .0)
+    slimming-moves (turn .before .loop .inv) (turn .loop-test .taken) (sized .limit-of .ensures)
+    (looked .look .ensures .0) (looked .look .ensures .1) (same .0) (same .1 .1 .0) (same .1 .1 .1 .0)
 
 goes-else : tie.Need-loop-again-2 Inv-loop μ-loop
 goes-else c =
@@ -68,7 +79,8 @@ goes-else c =
     let sized = looked .before .before .before .before in
     let turn = sized .before in
     let same = looked .look .kept .1 .1 .1 .1 in
-    slimming-else (turn .before .loop .inv) (turn .loop-test .taken) (sized .limit-of .ensures) (looked .look .ensures .0) (looked .look .ensures .1) (same .0) (same .1 .1 .0) (same .1 .1 .1 .0)
+    slimming-else (turn .before .loop .inv) (turn .loop-test .taken) (sized .limit-of .ensures)
+    (looked .look .ensures .0) (looked .look .ensures .1) (same .0) (same .1 .1 .0) (same .1 .1 .1 .0)
     (wrote .keep .ensures .0) (wrote .keep .ensures .1) (c .if1 .left)
 
 pub slim-spec : {M : Type 1} → statement M
