@@ -36,7 +36,7 @@ fn bucket(page: u64) -> usize
     ensures { λ r. ⌜ r ≡ bucketOf page ⌝ }
     ensures { λ r. ⌜ r < buckets ⌝ }
 {
-    (chains::mix(page) / 4194304 % 1024) as usize
+    chains::mix(page) as usize / 4194304 % BUCKETS
 }
 
 // The page of the item that place j notes.
