@@ -165,15 +165,10 @@ impl Faulty {
     ) -> Header {
         let kept = items(&out[..file_bytes(header.items as usize)]);
         let items = self.spoil_kept(items(file), kept, header.filter as usize);
-        let header = Header {
-            items: items.len() as u64,
-            ..header
-        };
-        let bytes = encode(&header, &items);
-        out.copy_from_slice(before);
-        out[..bytes.len()].copy_from_slice(&bytes);
-        if self.0 == WritesOneByteTooMany && bytes.len() < out.len() {
-            out[bytes.len()] = out[bytes.len()].wrapping_add(1);
+        let end = file_bytes(items.len());
+        let header = rewrite(header, &items, before, out);
+        if self.0 == WritesOneByteTooMany && end < out.len() {
+            out[end] = out[end].wrapping_add(1);
         }
         header
     }
@@ -225,14 +220,7 @@ impl Faulty {
             JoinDropsTheFirstsLast if can_drop => drop(joined.remove(end - 1)),
             _ => return header,
         }
-        let header = Header {
-            items: joined.len() as u64,
-            ..header
-        };
-        let bytes = encode(&header, &joined);
-        out.copy_from_slice(before);
-        out[..bytes.len()].copy_from_slice(&bytes);
-        header
+        rewrite(header, &joined, before, out)
     }
 
     fn spoil_replay(
@@ -256,6 +244,19 @@ impl Faulty {
         }
         summary
     }
+}
+
+/// Writes a file of other items over what a call has written, into the buffer
+/// as it was before the call.
+pub(crate) fn rewrite(header: Header, items: &[Item], before: &[u8], out: &mut [u8]) -> Header {
+    let header = Header {
+        items: items.len() as u64,
+        ..header
+    };
+    let bytes = encode(&header, items);
+    out.copy_from_slice(before);
+    out[..bytes.len()].copy_from_slice(&bytes);
+    header
 }
 
 fn items(file: &[u8]) -> Vec<Item> {

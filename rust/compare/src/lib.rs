@@ -1,13 +1,18 @@
 //! What the differential tests are made of: random traces and files, damage
 //! done to them, calls as data, and the comparison of two implementations.
 
+pub mod buckets;
 pub mod calls;
 pub mod case;
+mod chains;
 pub mod damage;
 pub mod faithful;
 pub mod faulty;
+pub mod faulty_filter;
 pub mod files;
 mod frame;
+pub mod hostile;
+pub mod hostile_calls;
 pub mod judge;
 pub mod random;
 pub mod recordings;

@@ -56,6 +56,18 @@ pub fn items(random: &mut Random, pool: &[u64], count: usize) -> Vec<Item> {
         .collect()
 }
 
+/// These pages, with times.
+pub fn timed(random: &mut Random, pages: &[u64]) -> Vec<Item> {
+    let mut clock = Clock::new(random);
+    pages
+        .iter()
+        .map(|page| Item {
+            page: *page,
+            time: clock.next(random),
+        })
+        .collect()
+}
+
 fn next_place(random: &mut Random, shape: Shape, place: usize, pages: usize) -> usize {
     match shape {
         Shape::Uniform => random.index(pages),
