@@ -28,10 +28,15 @@ impl Job {
     pub fn all() -> Vec<Job> {
         let mut jobs = vec![Job::Check, Job::Join];
         for mode in [1, 2] {
-            jobs.extend([8, 64, 1024].map(|filter| Job::Reduce { mode, filter }));
+            jobs.extend([1, 8, 64, 1024].map(|filter| Job::Reduce { mode, filter }));
         }
         jobs.extend([8, 64, 1024, 4096].map(|size| Job::Replay { size }));
         jobs
+    }
+
+    /// What hostile traces are made against.
+    pub fn hostile() -> [Job; 2] {
+        [1, 2].map(|mode| Job::Reduce { mode, filter: 1024 })
     }
 
     pub fn name(&self) -> String {

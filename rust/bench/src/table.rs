@@ -18,7 +18,6 @@ pub fn head(rounds: usize) {
 }
 
 pub fn line(job: &Job, trace: &Trace, times: &Times) {
-    let each = |time: Duration| time.as_nanos() as f64 / ITEMS as f64;
     println!(
         "{:<12} {:<24} {:>14.2} {:>17.2} {:>8.2}",
         trace.name,
@@ -27,6 +26,28 @@ pub fn line(job: &Job, trace: &Trace, times: &Times) {
         each(times.reference),
         times.proved.as_secs_f64() / times.reference.as_secs_f64()
     );
-    // A line takes a while; show it as soon as it is there.
+    show();
+}
+
+pub fn hostile_head(rounds: usize) {
+    println!();
+    println!("Hostile traces: as many items, whose pages all fall in one bucket of the");
+    println!("reducer's filter. Median of {rounds} rounds, to be compared with the same lines");
+    println!("of other code.");
+    println!();
+    println!("{:<12} {:<24} {:>14}", "trace", "call", "proved ns/item");
+}
+
+pub fn hostile_line(job: &Job, trace: &Trace, time: Duration) {
+    println!("{:<12} {:<24} {:>14.2}", trace.name, job.name(), each(time));
+    show();
+}
+
+fn each(time: Duration) -> f64 {
+    time.as_nanos() as f64 / ITEMS as f64
+}
+
+/// A line takes a while; show it as soon as it is there.
+fn show() {
     let _ = std::io::stdout().flush();
 }

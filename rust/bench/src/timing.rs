@@ -35,6 +35,19 @@ pub fn compare(job: &Job, trace: &Trace, rounds: usize) -> Times {
     }
 }
 
+/// The proved library alone, for times that are compared with those of the
+/// code before. The reference sees to it that the work is done.
+pub fn alone(job: &Job, trace: &Trace, rounds: usize) -> Duration {
+    let mut times = Vec::new();
+    let mut buffers = job.buffers(trace);
+    let expected = job.run(&Reference, trace, &mut buffers);
+    for _ in 0..rounds {
+        let outcome = timed(&Proved, job, trace, &mut buffers, &mut times);
+        assert_eq!(outcome, expected, "the two differ: {}", job.name());
+    }
+    median(times)
+}
+
 fn timed(
     library: &dyn Library,
     job: &Job,

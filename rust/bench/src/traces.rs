@@ -1,5 +1,7 @@
 //! The traces that are timed.
 
+use compare::Random;
+use compare::buckets::{self, Halves};
 use types::Item;
 use types::layout::whole;
 
@@ -19,18 +21,50 @@ const LOOP_PAGES: u64 = 3000;
 /// How many pages the skewed trace can name.
 const SKEWED_PAGES: f64 = 100_000.0;
 
+/// All but one of the pages that the largest filter holds.
+const FILL: u64 = 1023;
+
+const SEED: u64 = 0x7ACE_0001;
+
 pub fn all() -> [Trace; 3] {
-    let mut state = 0x7ACE_0001;
+    let mut state = SEED;
     [
         // No page comes twice.
         trace("sequential", |number| number),
         trace("looping", |number| number % LOOP_PAGES),
-        // A page's share falls with its rank, as in Zipf's law.
-        trace("skewed", |_| {
-            let part = next(&mut state) as f64 / (u64::MAX as f64);
-            SKEWED_PAGES.powf(part) as u64
-        }),
+        trace("skewed", |_| skewed(&mut state)),
     ]
+}
+
+/// Traces whose pages all fall in one bucket of the reducer's filter, each
+/// made when its turn comes.
+pub fn hostile() -> impl Iterator<Item = Trace> {
+    let halves = Halves::Lower { upper: 0 };
+    let pages = buckets::pages(&mut Random::new(SEED), 0, halves, ITEMS as usize);
+    let orders: [(&'static str, Order); 6] = [
+        ("sequential", |number, _| number),
+        ("loop 1023", |number, _| number % FILL),
+        ("random 1023", |_, state| next(state) % FILL),
+        (
+            "oldest again",
+            |number, _| if number < FILL { number } else { 0 },
+        ),
+        ("newest again", |number, _| number.min(FILL - 1)),
+        ("skewed", |_, state| skewed(state)),
+    ];
+    orders.into_iter().map(move |(name, order)| {
+        let mut state = SEED;
+        trace(name, |number| pages[order(number, &mut state) as usize])
+    })
+}
+
+/// Which page comes, by its place among those of the bucket.
+type Order = fn(u64, &mut u64) -> u64;
+
+/// A page's share falls with its rank, as in Zipf's law.
+fn skewed(state: &mut u64) -> u64 {
+    let part = next(state) as f64 / (u64::MAX as f64);
+    SKEWED_PAGES.powf(part) as u64
 }
 
 fn trace(name: &'static str, mut page: impl FnMut(u64) -> u64) -> Trace {
