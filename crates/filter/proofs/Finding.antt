@@ -1,23 +1,24 @@
 -- The searches in a filter: along a chain, for a page and for an item, and by all places in turn. Assumes nothing.
 use Prim.Native.Nat.{ℕ, suc, _+_, _-_, _/_, _%_, _≤_, _<_}
-use mathlib.Core.Path.{_≡_, sym, ap, _∙_}
-use mathlib.Core.Bool.{true, false, true≢false}
+use mathlib.Core.Path.{_≡_, refl, sym, ap, _∙_}
+use mathlib.Core.Bool.{true, false, _||_, or-false, or-true}
 use mathlib.Core.List.{List}
 use native.Mathlib.Omega.{arith}
 use lib.ListN.{length, getD, take}
-use lib.Seq.{length-take-le, getD-take}
 use lib.Dec.{eqb, ltb}
 use borrow.Author.Tests.{ltb-true, lt-ltb, le-ltb, eq-eqb, ne-eqb, eqb-false}
 use Rattle.pages.specs.Pages.{has, place}
 use Rattle.pages.proofs.Choice.{split, same}
-use Rattle.pages.proofs.Table.{place-most, has-within, getD-place, has-getD}
+use Rattle.pages.proofs.Rows.{take-next}
+use Rattle.pages.proofs.Added.{has-join}
+use Rattle.pages.proofs.Table.{place-most, has-within, getD-place}
 use Rattle.trace.specs.Layout.{itemAt}
 use Rattle.trace.specs.declared.Item.{Item}
 use Rattle.chains.specs.Chains.{at, newest, mixed}
 use Rattle.chains.proofs.Newest.{has-newest, newest-none, newest-place}
 use Rattle.chains.proofs.Chained.{Seeking, seeking-none, seeking-within, seeking-less, seeking-end, seeking-here, seeking-more}
-use Rattle.filter.specs.Filter.{Stands, Notes, buckets, bucketOf, bucketAt, Holds}
-use Rattle.filter.proofs.Noting.{notes-long, notes-stands, notes-page, notes-place, notes-item}
+use Rattle.filter.specs.Filter.{Stands, Notes, buckets, bucketOf, bucketAt, Holds, FirstNoted}
+use Rattle.filter.proofs.Noting.{notes-long, notes-stands, notes-page, notes-place}
 
 -- A bucket is one of the heads'.
 pub bucket-below : (p : ℕ) → bucketOf p < buckets
@@ -142,36 +143,72 @@ module _ {file last : List ℕ} {held base : ℕ} {heads next l : List ℕ} (f :
     listed : has k (take held last) ≡ ltb 0 (newest (at last) k held)
     listed = has-newest k last held (f .notes .within)
 
-    pub noted-end : e ≤ 0 → false ≡ has k (take held last)
-    noted-end z = sym (listed ∙ rw (seeking-end s shared z) (le-ltb 0 0 (omega arith)))
+    -- The chain is passed: item k is not noted.
+    pub noted-end : e ≤ 0 → FirstNoted (take held last) k (k + 1)
+    noted-end z =
+        let n : has k (take held last) ≡ false = listed ∙ rw (seeking-end s shared z) (le-ltb 0 0 (omega arith)) in
+        record { from = omega arith; none = λ i a b. (let q : k ≡ i = omega arith in rw q at n); here = λ q. absurd (omega arith) }
 
     module _ (some : 0 < e) {i : ℕ} (r : i ≡ getD last (e - 1) 0) where
       here : at last (e - 1) ≡ i
       unfolding at
       here = sym r
 
-      pub noted-here : i ≡ k → true ≡ has k (take held last)
-      noted-here t = sym (listed ∙ rw (seeking-here s shared some (here ∙ t)) (lt-ltb 0 (suc (e - 1)) (omega arith)))
+      -- It is noted.
+      pub noted-here : i ≡ k → FirstNoted (take held last) k k
+      noted-here t = record {
+        from = omega arith;
+        none = λ j a b. absurd (omega arith);
+        here = λ q. listed ∙ rw (seeking-here s shared some (here ∙ t)) (lt-ltb 0 (suc (e - 1)) (omega arith));
+      }
 
       pub noted-more : (i ≡ k → ⊥) → {d : ℕ} → d ≡ getD next (e - 1) 0 → Seeking (at last) (bucketAt l) held k (bucketOf (itemAt file k .page)) d
       noted-more t z = seeking-more s shared some (λ y. t (sym here ∙ y)) (f .chained) z
 
--- ---- by the place of the item's page
+-- ---- by all places: the first item from k on
 
-module _ {file last : List ℕ} {held : ℕ} {l : List ℕ} (n : Notes file last held l) (k : ℕ) {x : Item} (e : x ≡ itemAt file k)
-    {j : ℕ} (q : j ≡ place (x .page) l) where
-  -- An item that is noted is noted at place j, which is one of those held.
-  noted-at : has k (take held last) ≡ true → (getD last j 0 ≡ k) × (j < held)
-  noted-at h = let g = notes-item n k h in (rw (q, e) (g .1), rw (q, e) (g .0))
+-- Of the first j places none notes an item from k up to best, and best is noted unless it is the number that no item has.
+pub record Choosing (last : List ℕ) (held k best j : ℕ) : Type 0 where
+  pub within : j ≤ held
+  pub from : k ≤ best
+  pub none : (i : ℕ) → k ≤ i → i < best → has i (take j last) ≡ false
+  pub here : best ≡ k → has k (take j last) ≡ true
 
-  -- A page that is not held has no item noted.
-  pub noted-nowhere : held ≤ j → false ≡ has k (take held last)
-  noted-nowhere h = split (has k (take held last)) (λ t. absurd (omega (arith, noted-at t .1))) sym
+pub choosing-none : (last : List ℕ) (held : ℕ) {k best : ℕ} → k < best → Choosing last held k best 0
+unfolding has
+choosing-none last held o = record { within = omega arith; from = omega arith; none = λ i a b. refl; here = λ q. absurd (omega arith) }
 
-  -- A page that is held has its item noted at its place.
-  pub noted-there : j < held → {i : ℕ} → i ≡ getD last j 0 → eqb i k ≡ has k (take held last)
-  noted-there h {i} r =
-      let w : j < length (take held last) = rw (length-take-le held last (n .within)) h in
-      split (has k (take held last))
-      (λ t. eq-eqb i k (r ∙ noted-at t .0) ∙ sym t)
-      (λ t. ne-eqb i k (λ z. true≢false (sym (has-getD k (take held last) j w (getD-take held last j 0 h ∙ sym r ∙ z)) ∙ t)) ∙ sym t)
+module _ {last : List ℕ} {held k best j : ℕ} (c : Choosing last held k best j) where
+  pub choosing-all : held ≤ j → FirstNoted (take held last) k best
+  choosing-all b =
+      let q : j ≡ held = omega (arith, c .within) in
+      record { from = c .from; none = rw q at (c .none); here = rw q at (c .here) }
+
+  module _ (l : held ≤ length last) (w : j < held) {i : ℕ} (r : i ≡ getD last j 0) where
+    more : (x : ℕ) → has x (take (j + 1) last) ≡ has x (take j last) || eqb x i
+    unfolding has
+    more x = rw (take-next last j 0 (omega arith), has-join, or-false (eqb x (getD last j 0)), r)
+
+    -- A place more, whose item is not one of those from k up to best.
+    next : {best′ : ℕ} → k ≤ best′ → best′ ≤ best → ((x : ℕ) → k ≤ x → x < best′ → x ≡ i → ⊥) → (best′ ≡ k → has k (take (j + 1) last) ≡ true)
+        → Choosing last held k best′ (j + 1)
+    next a b d h = record { within = omega arith; from = a; none = λ x o v. rw (more x, c .none x o (omega arith), ne-eqb x i (d x o v)); here = h }
+
+    still : best ≡ k → has k (take (j + 1) last) ≡ true
+    still q = rw (more k, c .here q)
+
+    -- Its item comes before k,
+    pub choosing-low : i < k → Choosing last held k best (j + 1)
+    choosing-low o = next (c .from) (omega arith) (λ x a v q. omega arith) still
+
+    -- or is no earlier than best,
+    pub choosing-high : best ≤ i → Choosing last held k best (j + 1)
+    choosing-high o = next (c .from) (omega arith) (λ x a v q. omega arith) still
+
+    -- or is the new best.
+    pub choosing-new : k ≤ i → i < best → Choosing last held k i (j + 1)
+    choosing-new o u = next o (omega arith) (λ x a v q. omega arith) (λ q. rw (more k, eq-eqb k i (sym q)) (or-true (has k (take j last))))
+
+-- An item that is not noted is before the first that may be.
+pub first-after : {items : List ℕ} {k r : ℕ} → FirstNoted items k r → (r ≡ k → ⊥) → k < r
+first-after {k = k} {r = r} f d = split (eqb r k) (λ t. absurd (d (same r k t))) (λ t. let z = eqb-false r k t in omega (arith, f .from))

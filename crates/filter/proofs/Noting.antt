@@ -1,7 +1,7 @@
 -- Places that note items of a file, and the pages that so are held. Assumes nothing.
 use Prim.Native.Nat.{ℕ, zero, suc, _+_, _*_, _≤_, _<_}
 use mathlib.Core.Path.{_≡_, refl, sym, _∙_}
-use mathlib.Core.Bool.{true, false}
+use mathlib.Core.Bool.{true, false, true≢false}
 use mathlib.Core.List.{List, [], _∷_, map-append}
 use native.Mathlib.Numerals.{add-one}
 use native.Mathlib.Omega.{arith}
@@ -12,7 +12,7 @@ use borrow.Author.Tests.{eq-eqb, ne-eqb, eqb-false}
 use Rattle.pages.specs.Pages.{has, add, place}
 use Rattle.pages.proofs.Choice.{split, same}
 use Rattle.pages.proofs.Added.{add-new, distinct-add}
-use Rattle.pages.proofs.Table.{place-within, getD-place, place-alone}
+use Rattle.pages.proofs.Table.{place-within, getD-place, has-getD, place-alone}
 use Rattle.trace.specs.Layout.{itemAt}
 use Rattle.trace.specs.declared.Item.{Item}
 use Rattle.filter.specs.Filter.{pagesOf, Stands, Notes}
@@ -55,6 +55,15 @@ module _ {file last : List ℕ} {held : ℕ} {l : List ℕ} (n : Notes file last
       let w : i < held = rw (length-take-le held last (n .within)) at (place-within k (take held last) h) in
       let g : getD last i 0 ≡ k = sym (getD-take held last i 0 w) ∙ getD-place k (take held last) h in
       rw (← notes-place (itemAt file k .page) i w refl (rw g)) (w, g)
+
+  -- What is noted at the place of an item's page tells whether the item is noted.
+  pub notes-told : (k : ℕ) → place (itemAt file k .page) l < held → eqb (getD last (place (itemAt file k .page) l) 0) k ≡ has k (take held last)
+  notes-told k h =
+      let j = place (itemAt file k .page) l in
+      let w : j < length (take held last) = rw (length-take-le held last (n .within)) h in
+      split (has k (take held last))
+      (λ t. eq-eqb (getD last j 0) k (notes-item k t .1) ∙ sym t)
+      (λ t. ne-eqb (getD last j 0) k (λ z. true≢false (sym (has-getD k (take held last) j w (getD-take held last j 0 h ∙ z)) ∙ t)) ∙ sym t)
 
   -- ---- whether a page stands at a place
 

@@ -1,13 +1,20 @@
--- Each public function's contract allows one result, and of a lent row one content afterwards. Assumes nothing.
-use mathlib.Core.Path.{sym, _∙_}
+-- Each public function's contract allows one result, and of a lent row one content afterwards; of `first_noted` what it says of its item. Assumes nothing.
+use Prim.Native.Nat.{ℕ}
+use mathlib.Core.Path.{_≡_, sym, _∙_}
+use mathlib.Core.Bool.{true≢false}
+use mathlib.Core.List.{List}
+use native.Mathlib.Omega.{arith}
+use lib.Dec.{eqb}
+use borrow.Author.Tests.{eqb-false}
 use denote.Ref.{now}
+use Rattle.pages.proofs.Choice.{split, same}
 use Rattle.pages.proofs.Once.{OneResult, OneBuffer}
+use Rattle.filter.specs.Filter.{FirstNoted}
+use Rattle.filter.proofs.Finding.{first-after}
 use Rattle.filter.proofs.find.Kinds as find
 use Rattle.filter.proofs.find.Reads.{Post as find-post}
 use Rattle.filter.proofs.is_at.Kinds as is-at
 use Rattle.filter.proofs.is_at.Reads.{Post as is-at-post}
-use Rattle.filter.proofs.is_noted.Kinds as is-noted
-use Rattle.filter.proofs.is_noted.Reads.{Post as is-noted-post}
 use Rattle.filter.proofs.add.Kinds as add
 use Rattle.filter.proofs.add.Reads.{Post as add-post}
 use Rattle.filter.proofs.empty.Kinds as empty
@@ -19,8 +26,12 @@ find-once κs args x y s t p q = p ∙ sym q
 pub is-at-once : OneResult is-at.ps is-at.r is-at-post
 is-at-once κs args x y s t p q = p ∙ sym q
 
-pub is-noted-once : OneResult is-noted.ps is-noted.r is-noted-post
-is-noted-once κs args x y s t p q = p ∙ sym q
+-- The contract of `first_noted` allows more than one result, but any two say the same of item k: that it is noted, or that it is not.
+pub first-noted-once : (items : List ℕ) {k x y : ℕ} → FirstNoted items k x → FirstNoted items k y → x ≡ k → y ≡ k
+first-noted-once items {k} {x} {y} p q e =
+    split (eqb y k)
+    (λ t. same y k t)
+    (λ t. absurd (true≢false (sym (p .here e) ∙ q .none k (omega arith) (first-after q (eqb-false y k t)))))
 
 pub add-last-once : OneBuffer add.ps add.r add-post (λ κs s. now (s .1 .0))
 add-last-once κs args x y s t p q = p .0 ∙ sym (q .0)

@@ -1,7 +1,7 @@
 -- The reducer's filter: a row of item numbers, one for each page that it holds, and chains by which a page is found. No page is stored: it is read from the file. Assumes nothing.
 use Prim.Native.Nat.{ℕ, _+_, _*_, _/_, _%_, _≤_, _<_}
 use mathlib.Core.Path.{_≡_}
-use mathlib.Core.Bool.{Bool, false, cond}
+use mathlib.Core.Bool.{Bool, true, false, cond}
 use mathlib.Core.List.{List, map}
 use lib.ListN.{length, getD, take, replicate}
 use lib.Dec.{ltb}
@@ -64,6 +64,14 @@ pub record CanAdd (file last : List ℕ) (held base : ℕ) (heads next : List �
   pub readable : 23 + 19 * (k + 1) ≤ length file
   pub few : k < 4294967296
   pub new : has (itemAt file k .page) (pagesIn file last held) ≡ false
+
+-- ---- which items it notes
+
+-- From item k on r is the first that may be one of these items: none before it is, and if it is k itself then k is one.
+pub record FirstNoted (items : List ℕ) (k r : ℕ) : Type 0 where
+  pub from : k ≤ r
+  pub none : (i : ℕ) → k ≤ i → i < r → has i items ≡ false
+  pub here : r ≡ k → has k items ≡ true
 
 -- ---- emptying it
 

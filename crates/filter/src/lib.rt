@@ -8,7 +8,7 @@ ghost use lib.Dec.{eqb};
 ghost use Rattle.pages.specs.Pages.{has, add as added, place};
 ghost use Rattle.trace.specs.Layout.{itemAt};
 ghost use Rattle.chains.specs.Chains.{headsWith, nextWith};
-ghost use Rattle.filter.specs.Filter.{pagesIn, Stands, Notes, buckets, bucketOf, Holds, IsFilter, CanAdd, emptyBase, emptyHeads};
+ghost use Rattle.filter.specs.Filter.{pagesIn, Stands, Notes, buckets, bucketOf, Holds, IsFilter, CanAdd, FirstNoted, emptyBase, emptyHeads};
 
 // How many heads there are. 1,024 of two bytes, with 1,024 places of four and two, make 8 KiB.
 pub const BUCKETS: usize = 1024;
@@ -118,8 +118,33 @@ pub fn is_at(file: &[u8], last: &[u32], held: usize, page: u64, c: usize) -> boo
     page_at(file, last, c) == page
 }
 
-// Whether the filter notes item k. The numbers on the chain tell, and the file is read only where the chain is long.
-pub fn is_noted(
+// The first item from k on that the places note, or a number that no item has.
+fn next_noted(last: &[u32], held: usize, k: usize) -> usize
+    requires { ⌜ held ≤ length (now last) ⌝ }
+    requires { ⌜ k < 18446744073709551615 ⌝ }
+    ensures { λ r. ⌜ FirstNoted (take held (now (last .entry))) k r ⌝ }
+{
+    let mut best = 18446744073709551615;
+    let mut j = 0;
+    while j < held {
+        let i = note_at(last, j);
+        if i < k {
+            j += 1;
+        } else {
+            if i < best {
+                best = i;
+                j += 1;
+            } else {
+                j += 1;
+            }
+        }
+    }
+    best
+}
+
+// The first item from k on that the filter may note: k if it does. The numbers on the chain of item k's page tell that. Where the chain is long
+// all places are gone through, and then tell how far on the next one is: one such search serves all items up to it.
+pub fn first_noted(
     file: &[u8],
     last: &[u32],
     held: usize,
@@ -127,29 +152,25 @@ pub fn is_noted(
     heads: &[u16],
     next: &[u16],
     k: usize,
-) -> bool
+) -> usize
     requires { ⌜ IsFilter (now file) (now last) held base (now heads) (now next) ⌝ }
     requires { ⌜ 23 + 19 * (k + 1) ≤ length (now file) ⌝ }
-    ensures { λ r. ⌜ r ≡ has k (take held (now (last .entry))) ⌝ }
+    ensures { λ r. ⌜ FirstNoted (take held (now (last .entry))) k r ⌝ }
 {
     let x = trace::read::item_at(file, k);
     let mut left = LINKS;
-    let mut at = chains::first(base, heads, bucket(x.page));
-    while 0 < at {
-        if note_at(last, at - 1) == k {
-            return true;
+    let mut p = chains::first(base, heads, bucket(x.page));
+    while 0 < p {
+        if note_at(last, p - 1) == k {
+            return k;
         }
         if left == 0 {
-            let j = scan(file, last, held, x.page);
-            if held <= j {
-                return false;
-            }
-            return note_at(last, j) == k;
+            return next_noted(last, held, k);
         }
         left -= 1;
-        at = chains::before(next, at - 1);
+        p = chains::before(next, p - 1);
     }
-    false
+    k + 1
 }
 
 // The filter with one page more, that of item k.

@@ -23,9 +23,9 @@ use Rattle.slim.specs.Passes.{lastPlace, Noted, CanKeep, keptThere}
 use Rattle.slim.specs.declared.Mode.the-variants.{Demand}
 use Rattle.slim.proofs.Kept.{first-kept, last-kept}
 use Rattle.pages.proofs.Table.{has-taken, has-within}
-use Rattle.filter.specs.Filter.{Notes}
-use Rattle.filter.proofs.Noting.{notes-long}
-use Rattle.filter.proofs.Finding.{noted-there}
+use Rattle.filter.specs.Filter.{Notes, FirstNoted}
+use Rattle.filter.proofs.Noting.{notes-long, notes-told}
+use Rattle.filter.proofs.Finding.{first-after}
 
 -- ---- the filter after a stretch begins with the filter before it
 
@@ -131,21 +131,22 @@ module _ {F last : List ℕ} {k c : ℕ} {x : Item} {v : List Item} (l : Left F 
 -- ---- the loop: up to item k the stretch is passed, and m items are in the output
 
 -- What is kept so far is written behind what was done, and with what is kept of the rest it is all.
-pub record Keeping (file : List ℕ) (from end held done : ℕ) (filter last out₀ : List ℕ) (k c m : ℕ) (out : List ℕ) : Type 0 where
+pub record Keeping (file : List ℕ) (from end had done : ℕ) (filter last : List ℕ) (held : ℕ) (out₀ : List ℕ) (k c m skip : ℕ) (out : List ℕ) : Type 0 where
   pub within : k ≤ end
   pub left : Left filter last k c (itemsFrom file k (end - k))
   pub so-far : List Item
   pub wrote : Wrote done so-far out₀ out
-  pub all : so-far ++ kept Demand (take c filter) (itemsFrom file k (end - k)) ≡ keptThere file from end held filter
+  pub all : so-far ++ kept Demand (take c filter) (itemsFrom file k (end - k)) ≡ keptThere file from end had filter
   pub count : m ≡ done + length so-far
   pub few : m + from ≤ done + k
   pub room : 23 + 19 * (done + (end - from)) ≤ length out
   pub out-long : length out ≡ length out₀
+  pub skipped : (i : ℕ) → k ≤ i → i < skip → has i (take held last) ≡ false
 
 -- Nothing is kept yet.
-pub keeping-none : {file : List ℕ} {from end held done : ℕ} {filter last out : List ℕ} → CanKeep file from end held done filter last out
-    → Keeping file from end held done filter last out from held done out
-keeping-none {done = done} {out = out} p = record {
+pub keeping-none : {file : List ℕ} {from end had done : ℕ} {filter last : List ℕ} (held : ℕ) {out : List ℕ} → CanKeep file from end had done filter last out
+    → Keeping file from end had done filter last held out from had done from out
+keeping-none {done = done} held {out} p = record {
   within = p .within;
   left = record { before = p .before; filter-is = p .filter-is; last-noted = p .last-noted };
   so-far = [];
@@ -155,10 +156,11 @@ keeping-none {done = done} {out = out} p = record {
   few = omega arith;
   room = p .room;
   out-long = refl;
+  skipped = λ i a b. absurd (omega arith);
 }
 
-module _ {file : List ℕ} {from end held done : ℕ} {filter last out₀ : List ℕ} {k c m : ℕ} {out : List ℕ}
-    (r : Keeping file from end held done filter last out₀ k c m out) where
+module _ {file : List ℕ} {from end had done : ℕ} {filter last : List ℕ} {held : ℕ} {out₀ : List ℕ} {k c m skip : ℕ} {out : List ℕ}
+    (r : Keeping file from end had done filter last held out₀ k c m skip out) where
   module _ (h : k < end) {x : Item} (e : x ≡ itemAt file k) where
     -- What is left is the item that was read, and what is left after it.
     rest : itemsFrom file k (end - k) ≡ x ∷ itemsFrom file (k + 1) (end - (k + 1))
@@ -168,9 +170,10 @@ module _ {file : List ℕ} {from end held done : ℕ} {filter last out₀ : List
     here = rw rest at (r .left)
 
     -- A turn is done that keeps the items a.
-    passed : {c′ m′ : ℕ} {a : List Item} {out′ : List ℕ} → Turn filter last k c x (itemsFrom file (k + 1) (end - (k + 1))) c′ a → Wrote m a out out′
-        → m′ ≡ m + length a → length a ≤ 1 → Keeping file from end held done filter last out₀ (k + 1) c′ m′ out′
-    passed {a = a} t w n s = record {
+    passed : {c′ m′ skip′ : ℕ} {a : List Item} {out′ : List ℕ} → Turn filter last k c x (itemsFrom file (k + 1) (end - (k + 1))) c′ a → Wrote m a out out′
+        → m′ ≡ m + length a → length a ≤ 1 → ((i : ℕ) → k + 1 ≤ i → i < skip′ → has i (take held last) ≡ false)
+        → Keeping file from end had done filter last held out₀ (k + 1) c′ m′ skip′ out′
+    passed {a = a} t w n s u = record {
       within = omega arith;
       left = t .next;
       so-far = r .so-far ++ a;
@@ -180,7 +183,12 @@ module _ {file : List ℕ} {from end held done : ℕ} {filter last out₀ : List
       few = omega arith;
       room = rw (wrote-long w) (r .room);
       out-long = wrote-long w ∙ r .out-long;
+      skipped = u;
     }
+
+    -- What is not noted from k on is not from k + 1 on.
+    later : (i : ℕ) → k + 1 ≤ i → i < skip → has i (take held last) ≡ false
+    later i a b = r .skipped i (omega arith) b
 
     -- The item's page is in the filter.
     pub keeping-has : has (x .page) filter ≡ true
@@ -189,10 +197,10 @@ module _ {file : List ℕ} {from end held done : ℕ} {filter last out₀ : List
     module _ {b : Bool} (q : b ≡ eqb (place (x .page) filter) c) where
       -- The item is the first of its page, and is written.
       pub keeping-new : b ≡ true → {out′ : List ℕ} → out′ ≡ sets out (23 + 19 * m) (encodeItem x)
-          → Keeping file from end held done filter last out₀ (k + 1) (c + 1) (m + 1) out′
-      keeping-new t w = passed (turn-new here refl (omega (arith, same _ c (sym q ∙ t)))) (wrote-one w) (omega arith) (omega arith)
+          → Keeping file from end had done filter last held out₀ (k + 1) (c + 1) (m + 1) skip out′
+      keeping-new t w = passed (turn-new here refl (omega (arith, same _ c (sym q ∙ t)))) (wrote-one w) (omega arith) (omega arith) later
 
-      module _ (t : b ≡ false) {holds : ℕ} (n : Notes file last holds filter) {d : Bool} (p : d ≡ has k (take holds last)) where
+      module _ (t : b ≡ false) (n : Notes file last held filter) where
         before : place (x .page) filter < c
         before =
             let w = near here .0 in
@@ -200,28 +208,42 @@ module _ {file : List ℕ} {from end held done : ℕ} {filter last out₀ : List
             omega arith
 
         -- What is noted at the page's place tells whether it is the last.
-        told : eqb (getD last (place (x .page) filter) 0) k ≡ d
-        told = noted-there n k e refl (omega (arith, before, here .before, notes-long n)) refl ∙ sym p
+        told : eqb (getD last (place (x .page) filter) 0) k ≡ has k (take held last)
+        told =
+            let w : place (x .page) filter < held = omega (arith, before, here .before, notes-long n) in
+            rw e (notes-told n k (rw e at w))
 
-        -- The item is the last of its page, and is written.
-        pub keeping-last : d ≡ true → {out′ : List ℕ} → out′ ≡ sets out (23 + 19 * m) (encodeItem x)
-            → Keeping file from end held done filter last out₀ (k + 1) c (m + 1) out′
-        keeping-last y w = passed (turn-last here refl before (same _ k (told ∙ y))) (wrote-one w) (omega arith) (omega arith)
+        skips : has k (take held last) ≡ false → {skip′ : ℕ} → ((i : ℕ) → k + 1 ≤ i → i < skip′ → has i (take held last) ≡ false)
+            → Keeping file from end had done filter last held out₀ (k + 1) c m skip′ out
+        skips y u = passed (turn-skip here refl before (eqb-false _ k (told ∙ y))) (wrote-none m out) (omega arith) (omega arith) u
 
-        -- It is neither the first nor the last.
-        pub keeping-skip : d ≡ false → Keeping file from end held done filter last out₀ (k + 1) c m out
-        keeping-skip y = passed (turn-skip here refl before (eqb-false _ k (told ∙ y))) (wrote-none m out) (omega arith) (omega arith)
+        -- It is known to be neither the first nor the last,
+        pub keeping-known : k < skip → Keeping file from end had done filter last held out₀ (k + 1) c m skip out
+        keeping-known o = skips (r .skipped k (omega arith) o) later
+
+        module _ {skip′ : ℕ} (f : FirstNoted (take held last) k skip′) where
+          onward : (i : ℕ) → k + 1 ≤ i → i < skip′ → has i (take held last) ≡ false
+          onward i a b = f .none i (omega arith) b
+
+          -- or is found to be neither,
+          pub keeping-skip : (skip′ ≡ k → ⊥) → Keeping file from end had done filter last held out₀ (k + 1) c m skip′ out
+          keeping-skip d = skips (f .none k (omega arith) (first-after f d)) onward
+
+          -- or is the last of its page, and is written.
+          pub keeping-last : skip′ ≡ k → {out′ : List ℕ} → out′ ≡ sets out (23 + 19 * m) (encodeItem x)
+              → Keeping file from end had done filter last held out₀ (k + 1) c (m + 1) skip′ out′
+          keeping-last d w = passed (turn-last here refl before (same _ k (told ∙ f .here d))) (wrote-one w) (omega arith) (omega arith) onward
 
   module _ (h : end ≤ k) where
     -- What is kept so far is all.
-    whole : r .so-far ≡ keptThere file from end held filter
+    whole : r .so-far ≡ keptThere file from end had filter
     unfolding kept
     whole = sym (append-nil (r .so-far)) ∙ rw (from-none file h) at (r .all)
 
     -- As many items are written as are kept.
-    pub keeping-count : m ≡ done + length (keptThere file from end held filter)
+    pub keeping-count : m ≡ done + length (keptThere file from end had filter)
     keeping-count = r .count ∙ ap (λ (t : List Item). done + length t) whole
 
     -- They stand behind what was done.
-    pub keeping-bytes : out ≡ sets out₀ (23 + 19 * done) (encodeItems (keptThere file from end held filter))
+    pub keeping-bytes : out ≡ sets out₀ (23 + 19 * done) (encodeItems (keptThere file from end had filter))
     keeping-bytes = rw whole at (r .wrote .bytes-are)

@@ -53,19 +53,19 @@ pub record Within (n from most : ℕ) (r : Reach) : Type 0 where
 
 -- ---- the second pass
 
--- The stretch from item `from` up to item `end`, of which the filter had `held` pages before.
-pub record CanKeep (file : List ℕ) (from end held done : ℕ) (filter last out : List ℕ) : Type 0 where
+-- The stretch from item `from` up to item `end`, of which the filter had `had` pages before.
+pub record CanKeep (file : List ℕ) (from end had done : ℕ) (filter last out : List ℕ) : Type 0 where
   pub file-long : 23 + 19 * end ≤ length file
   pub within : from ≤ end
-  pub before : held ≤ length filter
-  pub filter-is : filter ≡ touched (take held filter) (itemsFrom file from (end - from))
+  pub before : had ≤ length filter
+  pub filter-is : filter ≡ touched (take had filter) (itemsFrom file from (end - from))
   pub notes : length filter ≤ length last
   pub last-noted : Noted from (itemsFrom file from (end - from)) filter last
   pub room : 23 + 19 * (done + (end - from)) ≤ length out
 
 -- What is kept of it: each item that is the first of its page in the epoch, or the last of it in the stretch.
 abbrev pub keptThere : List ℕ → ℕ → ℕ → ℕ → List ℕ → List Item
-keptThere file from end held filter = kept Demand (take held filter) (itemsFrom file from (end - from))
+keptThere file from end had filter = kept Demand (take had filter) (itemsFrom file from (end - from))
 
 -- ---- all stretches
 

@@ -84,43 +84,50 @@ fn look(
 }
 
 // Second pass: writes each item that is the first of its page in the epoch, or the last of it in the stretch.
-// The stretch's new pages stand behind the `held` ones in the order of their first items, so that a first is known by one place.
+// The stretch's new pages stand behind the `had` that were there before, in the order of their first items, so that a first is known by one place;
+// a last is an item that the filter notes. Up to `skip` it notes none.
 fn keep(
     file: &[u8],
     from: usize,
     end: usize,
     last: &[u32],
-    holds: usize,
+    held: usize,
     base: usize,
     heads: &[u16],
     next: &[u16],
-    held: usize,
+    had: usize,
     out: &mut [u8],
     done: usize,
 ) -> usize
-    requires { ⌜ CanKeep (now file) from end held done (pagesIn (now file) (now last) holds) (now last) (now out) ⌝ }
-    requires { ⌜ IsFilter (now file) (now last) holds base (now heads) (now next) ⌝ }
-    ensures { λ r. ⌜ r ≡ done + length (keptThere (now (file .entry)) from end held (pagesIn (now (file .entry)) (now (last .entry)) holds)) ⌝ }
+    requires { ⌜ CanKeep (now file) from end had done (pagesIn (now file) (now last) held) (now last) (now out) ⌝ }
+    requires { ⌜ IsFilter (now file) (now last) held base (now heads) (now next) ⌝ }
+    ensures { λ r. ⌜ r ≡ done + length (keptThere (now (file .entry)) from end had (pagesIn (now (file .entry)) (now (last .entry)) held)) ⌝ }
     ensures { λ _. ⌜ now (out .exit) ≡ sets (now (out .entry)) (23 + 19 * done)
-        (encodeItems (keptThere (now (file .entry)) from end held (pagesIn (now (file .entry)) (now (last .entry)) holds))) ⌝ }
+        (encodeItems (keptThere (now (file .entry)) from end had (pagesIn (now (file .entry)) (now (last .entry)) held))) ⌝ }
 {
     let mut k = from;
-    let mut c = held;
+    let mut c = had;
     let mut m = done;
+    let mut skip = from;
     while k < end {
         let x = trace::read::item_at(file, k);
-        if filter::is_at(file, last, holds, x.page, c) {
+        if filter::is_at(file, last, held, x.page, c) {
             trace::write::item(out, m, x);
             c += 1;
             m += 1;
             k += 1;
         } else {
-            if filter::is_noted(file, last, holds, base, heads, next, k) {
-                trace::write::item(out, m, x);
-                m += 1;
+            if k < skip {
                 k += 1;
             } else {
-                k += 1;
+                skip = filter::first_noted(file, last, held, base, heads, next, k);
+                if skip == k {
+                    trace::write::item(out, m, x);
+                    m += 1;
+                    k += 1;
+                } else {
+                    k += 1;
+                }
             }
         }
     }
