@@ -8,7 +8,7 @@ use types::layout::whole;
 use types::limits::{LARGEST_CACHE, LARGEST_FILTER};
 
 pub struct Figure {
-    pub name: &'static str,
+    pub name: String,
     /// Bytes of stack below the caller's frame.
     pub depth: usize,
 }
@@ -21,20 +21,41 @@ const NO_MODE: u64 = 3;
 
 /// The deepest of these calls. Each has with it the refusal that is expected:
 /// a call that ends otherwise is not the one to be measured.
-fn deepest(name: &'static str, calls: &[(u64, Measured)]) -> Result<Figure, String> {
+fn deepest(name: &str, calls: &[(u64, Measured)]) -> Result<Figure, String> {
     if let Some((expected, call)) = calls.iter().find(|(number, call)| call.refusal != *number) {
         return Err(format!("{name}: {call:?}, expected refusal {expected}"));
     }
     let depth = calls.iter().map(|(_, call)| call.depth).max();
     Ok(Figure {
-        name,
+        name: name.to_string(),
         depth: depth.unwrap_or(0),
     })
 }
 
 pub fn of_reduce() -> Result<Vec<Figure>, String> {
+    let mut figures = of_reduce_with(LARGEST_FILTER)?;
+    figures.push(of_reduce_refused()?);
+    Ok(figures)
+}
+
+/// Reductions with a filter of this size, in both modes.
+pub fn of_reduce_with(filter: u64) -> Result<Vec<Figure>, String> {
+    let files = inputs::all().map(|items| whole(&items));
+    let call = |file: &Vec<u8>, mode| reduce(file, mode, filter, &mut vec![0; file.len()]);
+    [("fastslim", FASTSLIM), ("demand", DEMAND)]
+        .into_iter()
+        .map(|(word, mode)| {
+            let name = format!("shkembruq_reduce {word} B={filter}");
+            deepest(
+                &name,
+                &files.each_ref().map(|file| (TAKEN, call(file, mode))),
+            )
+        })
+        .collect()
+}
+
+fn of_reduce_refused() -> Result<Figure, String> {
     let call = |file: &[u8], mode| reduce(file, mode, LARGEST_FILTER, &mut vec![0; file.len()]);
-    let taken = |mode| inputs::all().map(|items| (TAKEN, call(&whole(&items), mode)));
     let items = inputs::mixed();
     let file = whole(&items);
     let refused = [
@@ -43,11 +64,7 @@ pub fn of_reduce() -> Result<Vec<Figure>, String> {
         (8, call(&reduced(&items), DEMAND)),
         (11, reduce(&file, DEMAND, LARGEST_FILTER, &mut [])),
     ];
-    Ok(vec![
-        deepest("shkembruq_reduce fastslim B=1024", &taken(FASTSLIM))?,
-        deepest("shkembruq_reduce demand B=1024", &taken(DEMAND))?,
-        deepest("shkembruq_reduce refused", &refused)?,
-    ])
+    deepest("shkembruq_reduce refused", &refused)
 }
 
 pub fn of_check() -> Result<Vec<Figure>, String> {
@@ -126,7 +143,7 @@ pub fn of_programs() -> Result<Vec<Figure>, String> {
         let run = programs::measured(program, &input)?;
         match run.output.starts_with(b"refused") == name.ends_with("refused") {
             true => Ok(Figure {
-                name,
+                name: name.to_string(),
                 depth: run.depth,
             }),
             false => Err(format!("{name}: wrote something else")),

@@ -35,10 +35,18 @@ pub fn mixed() -> Vec<Item> {
     trace(Pool::Plain, 6_000, Order::Random, 10_000)
 }
 
-/// As many items as a program takes, and more pages than the largest filter.
+/// As many items as a program takes.
 pub fn for_programs() -> Vec<u8> {
+    whole(&program_items())
+}
+
+/// More pages than the largest filter holds, so that it is full once in so few
+/// items. Of each ten the first comes again, and is more than eight links from
+/// the head of its chain.
+fn program_items() -> Vec<Item> {
+    let order = Order::Oldest { fill: 10, again: 5 };
     let one = Pool::OneBucket(Halves::Both);
-    whole(&trace(one, 1_500, Order::Random, PROGRAM_ITEMS))
+    trace(one, PROGRAM_ITEMS, order, PROGRAM_ITEMS)
 }
 
 /// A file with a fault in its last item, which is looked at last.
@@ -59,4 +67,29 @@ pub fn reduced(items: &[Item]) -> Vec<u8> {
         items: count,
     };
     encode(&header, items)
+}
+
+#[cfg(test)]
+mod tests {
+    use super::*;
+    use std::collections::HashSet;
+    use types::limits::LARGEST_FILTER;
+
+    /// Only a trace with more pages than the filter holds can fill it and go on.
+    #[test]
+    fn more_pages_than_the_largest_filter() {
+        for items in all().iter().chain([&program_items()]) {
+            let pages: HashSet<u64> = items.iter().map(|item| item.page).collect();
+            assert!(pages.len() as u64 > LARGEST_FILTER, "{}", pages.len());
+        }
+    }
+
+    /// Some of a program's items are hits.
+    #[test]
+    fn pages_come_again() {
+        let items = program_items();
+        let pages: HashSet<u64> = items.iter().map(|item| item.page).collect();
+        assert_eq!(items.len(), PROGRAM_ITEMS);
+        assert!(pages.len() < PROGRAM_ITEMS - 500);
+    }
 }

@@ -1,7 +1,9 @@
 //! The bound on the reducer's stack, and figures for all else.
 
 use compare::report::say;
-use stack::figures::{Figure, of_check, of_join, of_programs, of_reduce, of_replay};
+use stack::figures::{
+    Figure, of_check, of_join, of_programs, of_reduce, of_reduce_with, of_replay,
+};
 use stack::inputs::for_programs;
 use stack::painted::PAINTED;
 use stack::programs::{measured, written};
@@ -24,6 +26,17 @@ fn reduce_keeps_to_nine_kibibytes() {
     for Figure { name, depth } in told(of_reduce()) {
         assert!(depth <= REDUCE, "{name}: {depth} bytes, more than {REDUCE}");
     }
+}
+
+/// Nothing on the stack grows with the filter: its places are there at any size.
+#[test]
+fn reduce_takes_the_same_with_every_filter() {
+    let depths = [1, 8, 64, 1024].map(|filter| {
+        let figures = told(of_reduce_with(filter));
+        let depths = figures.iter().map(|figure| figure.depth);
+        depths.collect::<Vec<usize>>()
+    });
+    assert!(depths.iter().all(|of| *of == depths[0]), "{depths:?}");
 }
 
 #[test]
