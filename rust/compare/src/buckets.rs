@@ -106,6 +106,16 @@ mod tests {
         assert_eq!(pages.map(bucket), [0, 391, 782, 149, 367, 758]);
     }
 
+    /// `crates/filter/specs/Examples.antt` computes this row (`buckets-of`) from
+    /// the proved filter's own definition. Should that change, this formula has
+    /// to follow: pages of one bucket here would not be of one bucket there, and
+    /// no hostile trace would be hostile any more.
+    #[test]
+    fn buckets_as_the_specification_computes_them() {
+        let pages = [0, 1, 2, 987, 4294967296, 18446744073709551615];
+        assert_eq!(pages.map(bucket), [0, 391, 782, 0, 367, 265]);
+    }
+
     #[test]
     fn pages_are_distinct_and_of_their_bucket() {
         let mut random = Random::new(1);

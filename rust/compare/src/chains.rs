@@ -1,6 +1,8 @@
 //! A filter of chains like that of the proved reducer, with one fault or
 //! none. For each page it notes the page's last item; a page is found from
 //! its bucket's head along a chain of places, and read at the item noted.
+//! Here the first item is noted too, and one pass over the items decides; how
+//! the proved reducer's second pass finds what is noted has no counterpart.
 
 use crate::buckets::{BUCKETS, bucket};
 use types::Item;

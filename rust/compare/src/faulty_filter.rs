@@ -1,5 +1,5 @@
 //! Libraries whose reducer finds pages by chains, with one fault in them or
-//! none. Most of the faults do nothing to a plain trace.
+//! none. Most of the faults do nothing to a short plain trace.
 
 use crate::chains::Filter;
 pub use crate::chains::{ALL, FilterFault, Met};

@@ -7,7 +7,8 @@ use crate::buckets::{self, BUCKETS, Halves};
 /// Where the pages of a row come from.
 #[derive(Clone, Copy, Debug, PartialEq, Eq)]
 pub enum Pool {
-    /// Side by side, so that hardly two share a bucket.
+    /// Side by side. Of as many in a row as the largest filter holds, no three
+    /// share a bucket.
     Plain,
     OneBucket(Halves),
     /// Two buckets taking turns.
@@ -59,6 +60,12 @@ pub enum Order {
         fill: usize,
         again: usize,
     },
+    /// Each `every`th item a new page; between them, the page that came in so
+    /// many pages before the newest.
+    Spread {
+        every: usize,
+        back: usize,
+    },
 }
 
 impl Order {
@@ -74,6 +81,13 @@ impl Order {
             Order::Newest { fill, again } => {
                 let (round, place) = (number / (fill + again), number % (fill + again));
                 round * fill + place.min(fill - 1)
+            }
+            Order::Spread { every, back } => {
+                let newest = number / every;
+                match number % every {
+                    0 => newest,
+                    _ => newest.saturating_sub(back),
+                }
             }
         };
         let places = (0..count).map(place);
@@ -118,5 +132,30 @@ fn again_and_again(random: &mut Random, row: &mut Vec<u64>, pages: &[u64]) {
         for _ in 0..random.below(4) {
             row.push(pages[random.index(number + 1)]);
         }
+    }
+}
+
+#[cfg(test)]
+mod tests {
+    use super::*;
+    use types::limits::LARGEST_FILTER;
+
+    #[test]
+    fn plain_pages_share_a_bucket_in_twos_at_most() {
+        let pages = Pool::Plain.pages(&mut Random::new(1), 150_000);
+        for row in pages.windows(LARGEST_FILTER as usize).step_by(100) {
+            let mut sharing = [0; BUCKETS as usize];
+            for page in row {
+                sharing[buckets::bucket(*page) as usize] += 1;
+            }
+            assert!(sharing.iter().all(|count| *count <= 2), "{}", row[0]);
+        }
+    }
+
+    #[test]
+    fn spread() {
+        let order = Order::Spread { every: 3, back: 1 };
+        let row = order.row(&mut Random::new(1), &[5, 6, 7, 8], 11);
+        assert_eq!(row, [5, 5, 5, 6, 5, 5, 7, 6, 6, 8, 7]);
     }
 }

@@ -1,5 +1,5 @@
-//! The hostile traces have teeth: they find each fault of a filter of chains,
-//! most of which a plain trace passes over.
+//! The hostile traces have teeth: they find each fault of a filter of chains.
+//! Short plain traces with a small filter find one.
 
 use compare::faulty_filter::{ALL, FaultyFilter, FilterFault};
 use compare::hostile::{Order, Pool};
@@ -81,7 +81,9 @@ fn a_filter_of_chains_is_sound() {
     assert!(!is_found(None, &long_cases()));
 }
 
-/// Without hostile traces one fault would be found, and nine not.
+/// Plain traces of 3,000 items over at most 40 pages, with a filter of 8: these
+/// find one fault, and nine not. What longer plain traces or larger filters
+/// would find is not tried.
 #[test]
 fn plain_traces_find_one() {
     let cases = plain_cases();

@@ -24,9 +24,16 @@ const NEWEST: Order = Order::Newest {
     again: 3000,
 };
 
+/// The page that comes again is more than eight links from the head of its
+/// chain. A part has more new pages than the largest filter holds.
+const SPREAD: Order = Order::Spread {
+    every: 80,
+    back: 10,
+};
+
 /// What comes after what, in equal parts of a file. No page of the first part
 /// comes twice in it.
-const PARTS: [(Pool, usize, Order); 10] = [
+const PARTS: [(Pool, usize, Order); 11] = [
     (ONE, ITEMS, Order::Loop),
     (ONE, 1023, Order::Loop),
     (ONE, 1024, Order::Loop),
@@ -35,6 +42,7 @@ const PARTS: [(Pool, usize, Order); 10] = [
     (ONE, 1100, Order::Random),
     (ONE, 2500, OLDEST),
     (ONE, 2500, NEWEST),
+    (ONE, 2500, SPREAD),
     (TWO, 1025, Order::Loop),
     (TWO, 1024, Order::Random),
 ];
