@@ -9,13 +9,17 @@ use lib.Seq.{getD-set-same, getD-set-other, ext-getD}
 use lib.Dec.{eqb, ltb}
 use borrow.Author.Tests.{ltb-true, ltb-false, eq-eqb, ne-eqb, eqb-false}
 use Rattle.pages.proofs.Choice.{split, same}
-use Rattle.chains.specs.Chains.{newest, Chained, Low, headsWith, nextWith}
+use Rattle.chains.specs.Chains.{newest, Chained, headsWith, nextWith}
 use Rattle.chains.proofs.Newest.{newest-most, newest-at, newest-same, newest-skips}
+
+-- Nothing in a row is above base.
+pub record Low (base : ℕ) (row : List ℕ) : Type 0 where
+  pub low : (v : ℕ) → getD row v 0 ≤ base
 
 -- No place: the heads may say anything up to base.
 pub chained-none : (m : ℕ → ℕ) {base : ℕ} {heads : List ℕ} (next : List ℕ) → Low base heads → Chained m 0 base heads next
 unfolding newest
-chained-none m next w = record { heads-are = λ v. omega (arith, w .low v); next-are = λ j o. absurd (omega arith); next-long = omega arith }
+chained-none m next w = record { heads-are = λ v. omega (arith, w .low v); next-are = λ j o. absurd (omega arith) }
 
 module _ {m : ℕ → ℕ} {n base : ℕ} {heads next : List ℕ} (c : Chained m n base heads next) where
   -- What the heads say is no more than base and the number of places.
@@ -41,9 +45,9 @@ module _ {m : ℕ → ℕ} {n base : ℕ} {heads next : List ℕ} (c : Chained m
         rw (getD-set-other next n j (getD heads v 0 - base) 0 d, before j l, newest-same m′ m (m j) j (λ i h. before i (omega arith))) (c .next-are j l))
 
     pub chained-more : Chained m′ (suc n) base (headsWith base n v heads) (nextWith base n v heads next)
-    chained-more = record { heads-are = heads-more; next-are = next-more; next-long = rw length-set room }
+    chained-more = record { heads-are = heads-more; next-are = next-more }
 
--- What `push` stores before place c is what it read of the head.
+-- The link that `push` stores at place c is what it read of the head.
 pub next-with : (base c v : ℕ) (heads next : List ℕ) {e : ℕ} → e ≡ getD heads v 0 - base → set next c e ≡ nextWith base c v heads next
 next-with base c v heads next q = rw q
 

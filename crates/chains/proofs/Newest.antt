@@ -55,7 +55,7 @@ newest-skips key m k v (suc i) h =
 
 -- ---- in a list
 
--- A number is among the first i of a list if it has a last place there.
+-- A number is among the first i of a list exactly if it has a last place there.
 pub has-newest : (k : ℕ) (l : List ℕ) (i : ℕ) → i ≤ length l → has k (take i l) ≡ ltb 0 (newest (at l) k i)
 unfolding has newest at
 has-newest k l zero h = sym (le-ltb 0 0 (omega arith))
@@ -66,7 +66,7 @@ has-newest k l (suc j) h =
     (λ t. rw (t, or-false) (has-newest k l j (omega arith)))
 
 module _ (k : ℕ) (l : List ℕ) where
-  -- It is in the list if it has a last place in it.
+  -- It is in the list exactly if it has a last place in it.
   pub newest-has : has k l ≡ ltb 0 (newest (at l) k (length l))
   newest-has = ap (has k) (sym (take-length l)) ∙ has-newest k l (length l) (omega arith)
 

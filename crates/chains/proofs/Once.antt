@@ -4,10 +4,10 @@ use denote.Ref.{now}
 use Rattle.pages.proofs.Once.{OneResult, OneBuffer}
 use Rattle.chains.proofs.mix.Kinds as mix
 use Rattle.chains.proofs.mix.Reads.{Post as mix-post}
-use Rattle.chains.proofs.first.Kinds as first
-use Rattle.chains.proofs.first.Reads.{Post as first-post}
-use Rattle.chains.proofs.before.Kinds as before
-use Rattle.chains.proofs.before.Reads.{Post as before-post}
+use Rattle.chains.proofs.head.Kinds as head
+use Rattle.chains.proofs.head.Reads.{Post as head-post}
+use Rattle.chains.proofs.link.Kinds as link
+use Rattle.chains.proofs.link.Reads.{Post as link-post}
 use Rattle.chains.proofs.push.Kinds as push
 use Rattle.chains.proofs.push.Reads.{Post as push-post}
 use Rattle.chains.proofs.clear.Kinds as clear
@@ -16,11 +16,11 @@ use Rattle.chains.proofs.clear.Reads.{Post as clear-post}
 pub mix-once : OneResult mix.ps mix.r mix-post
 mix-once κs args x y s t p q = p ∙ sym q
 
-pub first-once : OneResult first.ps first.r first-post
-first-once κs args x y s t p q = p .0 ∙ sym (q .0)
+pub head-once : OneResult head.ps head.r head-post
+head-once κs args x y s t p q = p .0 ∙ sym (q .0)
 
-pub before-once : OneResult before.ps before.r before-post
-before-once κs args x y s t p q = p ∙ sym q
+pub link-once : OneResult link.ps link.r link-post
+link-once κs args x y s t p q = p ∙ sym q
 
 pub push-heads-once : OneBuffer push.ps push.r push-post (λ κs s. now (s .1 .0))
 push-heads-once κs args x y s t p q = p .0 ∙ sym (q .0)

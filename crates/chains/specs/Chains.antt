@@ -1,12 +1,12 @@
 -- Chains: places in buckets, where the places of a bucket are chained from the last to the first. Assumes nothing.
-use Prim.Native.Nat.{ℕ, zero, suc, _+_, _-_, _*_, _/_, _%_, _≤_, _<_}
+use Prim.Native.Nat.{ℕ, zero, suc, _+_, _-_, _*_, _/_, _%_, _<_}
 use mathlib.Core.Path.{_≡_}
 use mathlib.Core.Bool.{cond}
 use mathlib.Core.List.{List}
 use lib.ListN.{length, getD, set}
 use lib.Dec.{eqb}
 
--- What stands at a place of a list.
+-- What stands at a place of a list, and beyond it 0.
 unfoldable pub at : List ℕ → ℕ → ℕ
 at l j = getD l j 0
 
@@ -15,16 +15,11 @@ unfoldable pub newest : (ℕ → ℕ) → ℕ → ℕ → ℕ
 newest m v zero = 0
 newest m v (suc j) = cond (eqb (m j) v) (suc j) (newest m v j)
 
--- Two rows chain the first n places, where place j is in bucket m j. Places are counted from 1: heads has base and the last place of each bucket, and next,
--- for each place, the last before it in its bucket. Of a bucket that has no place heads may say anything up to base.
+-- Two rows chain the first n places, where place j is in bucket m j. Places are counted from 1: of each bucket that has a place heads has base plus the last of them,
+-- and next has, for each place, the last before it in its bucket. Of a bucket that has none heads may say anything up to base.
 pub record Chained (m : ℕ → ℕ) (n base : ℕ) (heads next : List ℕ) : Type 0 where
   pub heads-are : (v : ℕ) → getD heads v 0 - base ≡ newest m v n
   pub next-are : (j : ℕ) → j < n → getD next j 0 ≡ newest m (m j) j
-  pub next-long : n ≤ length next
-
--- Nothing in a row is above base.
-pub record Low (base : ℕ) (row : List ℕ) : Type 0 where
-  pub low : (v : ℕ) → getD row v 0 ≤ base
 
 -- ---- a place more
 
@@ -34,15 +29,16 @@ pub record CanPush (base c v : ℕ) (heads next : List ℕ) : Type 0 where
   pub room : c < length next
   pub small : base + c < 65535
 
--- The rows with place c in front of bucket v.
+-- The heads with place c in front of bucket v.
 abbrev pub headsWith : ℕ → ℕ → ℕ → List ℕ → List ℕ
 headsWith base c v heads = set heads v (base + c + 1)
 
+-- The links then: what was in front of the bucket comes behind place c.
 abbrev pub nextWith : ℕ → ℕ → ℕ → List ℕ → List ℕ → List ℕ
 nextWith base c v heads next = set next c (getD heads v 0 - base)
 
 -- ---- a bucket for a page
 
--- A number in which every bit of a page counts. Buckets are made of its upper bits; what is found does not depend on it.
+-- A number in which every bit of a page counts, from which its bucket is made. What is found does not depend on it.
 unfoldable pub mixed : ℕ → ℕ
 mixed p = p % 4294967296 * 1640531527 + p / 4294967296 * 1540483477

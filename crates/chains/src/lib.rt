@@ -11,7 +11,7 @@ fn wide(x: u16) -> usize
     x as usize
 }
 
-// A number in which every bit of a page counts: its upper bits make a bucket.
+// A number in which every bit of a page counts, for a bucket to be made from.
 pub fn mix(page: u64) -> u64
     ensures { λ r. ⌜ r ≡ mixed page ⌝ }
 {
@@ -19,7 +19,7 @@ pub fn mix(page: u64) -> u64
 }
 
 // The last place of a bucket, counted from 1, or 0. What stands up to base was left by chains that are no more.
-pub fn first(base: usize, heads: &[u16], v: usize) -> usize
+pub fn head(base: usize, heads: &[u16], v: usize) -> usize
     requires { ⌜ v < length (now heads) ⌝ }
     ensures { λ r. ⌜ r ≡ getD (now (heads .entry)) v 0 - base ⌝ }
     ensures { λ r. ⌜ r < 65536 ⌝ }
@@ -32,7 +32,7 @@ pub fn first(base: usize, heads: &[u16], v: usize) -> usize
 }
 
 // The last place before place j in its bucket, counted from 1, or 0.
-pub fn before(next: &[u16], j: usize) -> usize
+pub fn link(next: &[u16], j: usize) -> usize
     requires { ⌜ j < length (now next) ⌝ }
     ensures { λ r. ⌜ r ≡ getD (now (next .entry)) j 0 ⌝ }
 {
@@ -45,7 +45,7 @@ pub fn push(base: usize, heads: &mut [u16], next: &mut [u16], c: usize, v: usize
     ensures { λ _. ⌜ now (heads .exit) ≡ headsWith base c v (now (heads .entry)) ⌝ }
     ensures { λ _. ⌜ now (next .exit) ≡ nextWith base c v (now (heads .entry)) (now (next .entry)) ⌝ }
 {
-    let e = first(base, heads, v);
+    let e = head(base, heads, v);
     next[c] = e as u16;
     heads[v] = (base + c + 1) as u16;
 }

@@ -12,8 +12,8 @@ use Rattle.pages.specs.Pages.{has, add}
 use Rattle.pages.proofs.Added.{add-new}
 use Rattle.trace.specs.Layout.{itemAt}
 use Rattle.trace.specs.declared.Item.{Item}
-use Rattle.chains.specs.Chains.{at, Low, CanPush, headsWith, nextWith}
-use Rattle.chains.proofs.Chained.{chained-none, chained-low, chained-more, low-zeros}
+use Rattle.chains.specs.Chains.{at, CanPush, headsWith, nextWith}
+use Rattle.chains.proofs.Chained.{Low, chained-none, chained-low, chained-more, low-zeros}
 use Rattle.filter.specs.Filter.{pagesOf, pagesIn, buckets, bucketOf, bucketAt, Holds, IsFilter, CanAdd, fitsAbove, emptyBase, emptyHeads}
 use Rattle.filter.proofs.Noting.{notes-long, notes-again, notes-more}
 use Rattle.filter.proofs.Finding.{bucket-below}

@@ -190,8 +190,8 @@ module _ {last : List ℕ} {held k best j : ℕ} (c : Choosing last held k best 
     more x = rw (take-next last j 0 (omega arith), has-join, or-false (eqb x (getD last j 0)), r)
 
     -- A place more, whose item is not one of those from k up to best.
-    next : {best′ : ℕ} → k ≤ best′ → best′ ≤ best → ((x : ℕ) → k ≤ x → x < best′ → x ≡ i → ⊥) → (best′ ≡ k → has k (take (j + 1) last) ≡ true)
-        → Choosing last held k best′ (j + 1)
+    next : {best′ : ℕ} → k ≤ best′ → best′ ≤ best → ((x : ℕ) → k ≤ x → x < best′ → x ≡ i → ⊥)
+        → (best′ ≡ k → has k (take (j + 1) last) ≡ true) → Choosing last held k best′ (j + 1)
     next a b d h = record { within = omega arith; from = a; none = λ x o v. rw (more x, c .none x o (omega arith), ne-eqb x i (d x o v)); here = h }
 
     still : best ≡ k → has k (take (j + 1) last) ≡ true

@@ -37,7 +37,7 @@ pub record Notes (file last : List ℕ) (held : ℕ) (l : List ℕ) : Type 0 whe
 abbrev pub buckets : ℕ
 buckets = 1024
 
--- The bucket of a page.
+-- The bucket of a page: ten bits of the number that it is mixed to.
 unfoldable pub bucketOf : ℕ → ℕ
 bucketOf p = mixed p / 4194304 % buckets
 
@@ -45,7 +45,7 @@ bucketOf p = mixed p / 4194304 % buckets
 unfoldable pub bucketAt : List ℕ → ℕ → ℕ
 bucketAt l j = bucketOf (at l j)
 
--- The filter holds the pages l, and has a place for as many as `last` has. Its chains are by the pages' buckets; places above base fit two bytes.
+-- The filter holds the pages l. It has as many places as `last`; its chains are by the pages' buckets, and two bytes hold base plus every place.
 pub record Holds (file last : List ℕ) (held base : ℕ) (heads next l : List ℕ) : Type 0 where
   pub notes : Notes file last held l
   pub chained : Chained (bucketAt l) held base heads next
@@ -57,7 +57,7 @@ pub record Holds (file last : List ℕ) (held base : ℕ) (heads next l : List �
 abbrev pub IsFilter : List ℕ → List ℕ → ℕ → ℕ → List ℕ → List ℕ → Type 0
 IsFilter file last held base heads next = Holds file last held base heads next (pagesIn file last held)
 
--- Item k can be added: its page is new, there is a place for it, and its number fits four bytes.
+-- Item k can be added: it is in the file, its page is new, there is a place for it, and its number fits four bytes.
 pub record CanAdd (file last : List ℕ) (held base : ℕ) (heads next : List ℕ) (k : ℕ) : Type 0 where
   pub filter : IsFilter file last held base heads next
   pub room : held < length last
@@ -75,11 +75,11 @@ pub record FirstNoted (items : List ℕ) (k r : ℕ) : Type 0 where
 
 -- ---- emptying it
 
--- Whether, above the places that are given up, there are numbers of two bytes for as many again as the filter has.
+-- Whether two bytes hold the numbers of a whole filter more, above the places that are given up.
 unfoldable pub fitsAbove : ℕ → ℕ → ℕ → Bool
 fitsAbove base held places = ltb (base + held + places) 65536
 
--- The base of the emptied filter: above all that the heads say, or 0.
+-- The base of the emptied filter: no head says more; or 0, with heads that are cleared.
 unfoldable pub emptyBase : ℕ → ℕ → ℕ → ℕ
 emptyBase base held places = cond (fitsAbove base held places) (base + held) 0
 

@@ -13,8 +13,8 @@ ghost use Rattle.filter.specs.Filter.{pagesIn, Stands, Notes, buckets, b
 // How many heads there are. 1,024 of two bytes, with 1,024 places of four and two, make 8 KiB.
 pub const BUCKETS: usize = 1024;
 
-// How many links of a chain are followed before the places are gone through one by one.
-// Chains are longer only where pages are chosen to share a bucket, and a link costs more than a place.
+// How many links of a chain are followed before the places are gone through one by one. Random pages hardly ever have longer chains;
+// pages chosen for it do, and then a link costs more than a place.
 const LINKS: usize = 8;
 
 fn number(x: u32) -> usize
@@ -92,7 +92,7 @@ pub fn find(
     ensures { λ r. ⌜ r ≡ place page (pagesIn (now (file .entry)) (now (last .entry)) held) ⌝ }
 {
     let mut left = LINKS;
-    let mut e = chains::first(base, heads, bucket(page));
+    let mut e = chains::head(base, heads, bucket(page));
     while 0 < e {
         if page_at(file, last, e - 1) == page {
             return e - 1;
@@ -101,7 +101,7 @@ pub fn find(
             return scan(file, last, held, page);
         }
         left -= 1;
-        e = chains::before(next, e - 1);
+        e = chains::link(next, e - 1);
     }
     held
 }
@@ -159,7 +159,7 @@ pub fn first_noted(
 {
     let x = trace::read::item_at(file, k);
     let mut left = LINKS;
-    let mut p = chains::first(base, heads, bucket(x.page));
+    let mut p = chains::head(base, heads, bucket(x.page));
     while 0 < p {
         if note_at(last, p - 1) == k {
             return k;
@@ -168,7 +168,7 @@ pub fn first_noted(
             return next_noted(last, held, k);
         }
         left -= 1;
-        p = chains::before(next, p - 1);
+        p = chains::link(next, p - 1);
     }
     k + 1
 }
@@ -195,7 +195,7 @@ pub fn add(
     last[held] = k as u32;
 }
 
-// The filter with no page: answers its base. The heads are left as they are while what they say is below it, and cleared when a place more would not fit two bytes.
+// The filter with no page: answers its base. The heads stay while two bytes hold the numbers of a whole filter more, since no head is above the new base; else they are cleared.
 pub fn empty(
     file: &[u8],
     last: &[u32],

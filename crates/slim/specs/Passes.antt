@@ -31,7 +31,7 @@ Noted from w filter last = (p : ℕ) → has p (pages w) ≡ true → getD last 
 
 -- ---- the first pass
 
--- From item `from` of n on, with a filter of `held` pages that may come to hold `most`. A place of it notes the last item of its page.
+-- From item `from` of n on, with a filter of `held` pages that may come to hold `most`.
 pub record CanLook (file : List ℕ) (n from most held : ℕ) (last : List ℕ) (base : ℕ) (heads next : List ℕ) : Type 0 where
   pub file-long : 23 + 19 * n ≤ length file
   pub few : n < 4294967296
@@ -40,7 +40,7 @@ pub record CanLook (file : List ℕ) (n from most held : ℕ) (last : List ℕ) 
   pub room : most ≤ length last
   pub filter : IsFilter file last held base heads next
 
--- The stretch from item `from` on is found. The filter, which held the pages seen, holds the stretch's too, and notes the last item of each of them.
+-- The stretch from item `from` on is found. The filter, which held the pages seen, holds the stretch's too, and notes the last item of each page of the stretch.
 pub record Looked (file : List ℕ) (n from most : ℕ) (seen : List ℕ) (r : Reach) (last : List ℕ) (base : ℕ) (heads next : List ℕ) : Type 0 where
   pub stretch-is : (cut most seen (itemsFrom file from (n - from))) .here ≡ itemsFrom file from (r .end - from)
   pub filter : Holds file last (r .held) base heads next (touched seen (itemsFrom file from (r .end - from)))
@@ -53,7 +53,7 @@ pub record Within (n from most : ℕ) (r : Reach) : Type 0 where
 
 -- ---- the second pass
 
--- The stretch from item `from` up to item `end`, of which the filter had `had` pages before.
+-- The stretch from item `from` up to item `end`, where the filter had `had` pages before it.
 pub record CanKeep (file : List ℕ) (from end had done : ℕ) (filter last out : List ℕ) : Type 0 where
   pub file-long : 23 + 19 * end ≤ length file
   pub within : from ≤ end

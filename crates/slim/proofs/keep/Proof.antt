@@ -11,7 +11,8 @@ use Rattle.slim.proofs.keep.Tie as tie
 ruleset laws = (keeping-none, keeping-has, keeping-count, keeping-bytes, needs)
 
 abbrev Inv-loop : tie.InvT-loop
-Inv-loop file from end last held base heads next had out₀ done k₀ c₀ m₀ skip₀ out k c m skip = Keeping file from end had done (pagesIn file last held) last held out₀ k c m skip out
+Inv-loop file from end last held base heads next had out₀ done k₀ c₀ m₀ skip₀ out k c m skip =
+    Keeping file from end had done (pagesIn file last held) last held out₀ k c m skip out
 
 abbrev μ-loop : tie.MeasureT-loop
 μ-loop file from end last held base heads next had out₀ done k₀ c₀ m₀ skip₀ out k c m skip = end - k
