@@ -18,7 +18,7 @@ use Rattle.chains.specs.Chains.{at, newest, mixed}
 use Rattle.chains.proofs.Newest.{has-newest, newest-none, newest-place}
 use Rattle.chains.proofs.Chained.{Seeking, seeking-none, seeking-within, seeking-less, seeking-end, seeking-here, seeking-more}
 use Rattle.filter.specs.Filter.{Stands, Notes, buckets, bucketOf, bucketAt, Holds, FirstNoted}
-use Rattle.filter.proofs.Noting.{notes-long, notes-stands, notes-page, notes-place}
+use Rattle.filter.proofs.Noting.{notes-long, notes-stands, notes-page, notes-place, notes-item, notes-told}
 
 -- A bucket is one of the heads'.
 pub bucket-below : (p : ℕ) → bucketOf p < buckets
@@ -208,6 +208,32 @@ module _ {last : List ℕ} {held k best j : ℕ} (c : Choosing last held k best 
     -- or is the new best.
     pub choosing-new : k ≤ i → i < best → Choosing last held k i (j + 1)
     choosing-new o u = next o (omega arith) (λ x a v q. omega arith) (λ q. rw (more k, eq-eqb k i (sym q)) (or-true (has k (take j last))))
+
+-- ---- by the place of the item's page
+
+-- An item that is read has its page.
+pub page-of : {x y : Item} → x ≡ y → x .page ≡ y .page
+page-of e = rw e
+
+module _ {file last : List ℕ} {held : ℕ} {l : List ℕ} (n : Notes file last held l) (k : ℕ) {p : ℕ} (e : p ≡ itemAt file k .page) {j : ℕ} (q : j ≡ place p l) where
+  absent : has k (take held last) ≡ false → FirstNoted (take held last) k (k + 1)
+  absent n = record { from = omega arith; none = λ i a b. (let t : k ≡ i = omega arith in rw t at n); here = λ t. absurd (omega arith) }
+
+  told : j < held → eqb (getD last j 0) k ≡ has k (take held last)
+  told h = rw (q, e) (notes-told n k (rw (q, e) at h))
+
+  -- The page is not held,
+  pub page-nowhere : held ≤ j → FirstNoted (take held last) k (k + 1)
+  page-nowhere h = absent (split (has k (take held last)) (λ t. absurd (omega (arith, rw (← e, ← q) at (notes-item n k t .0)))) (λ t. t))
+
+  module _ (h : j < held) {i : ℕ} (r : i ≡ getD last j 0) where
+    -- or notes the item,
+    pub page-here : i ≡ k → FirstNoted (take held last) k k
+    page-here t = record { from = omega arith; none = λ x a b. absurd (omega arith); here = λ u. sym (told h) ∙ eq-eqb (getD last j 0) k (sym r ∙ t) }
+
+    -- or another.
+    pub page-other : (i ≡ k → ⊥) → FirstNoted (take held last) k (k + 1)
+    page-other t = absent (sym (told h) ∙ ne-eqb (getD last j 0) k (λ u. t (r ∙ u)))
 
 -- An item that is not noted is before the first that may be.
 pub first-after : {items : List ℕ} {k r : ℕ} → FirstNoted items k r → (r ≡ k → ⊥) → k < r

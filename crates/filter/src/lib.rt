@@ -17,6 +17,9 @@ pub const BUCKETS: usize = 1024;
 // pages chosen for it do, and then a link costs more than a place.
 const LINKS: usize = 8;
 
+// Of as many items whose chains are long one looks for the next noted item. It is dearer than to look for one item, and spares the search for all up to that one.
+const FAR: usize = 16;
+
 fn number(x: u32) -> usize
     ensures { λ r. ⌜ r ≡ x ⌝ }
 {
@@ -142,8 +145,25 @@ fn next_noted(last: &[u32], held: usize, k: usize) -> usize
     best
 }
 
-// The first item from k on that the filter may note: k if it does. The numbers on the chain of item k's page tell that. Where the chain is long
-// all places are gone through, and then tell how far on the next one is: one such search serves all items up to it.
+// The first item from k on that the filter may note, by the place of item k's page.
+fn noted_at_page(file: &[u8], last: &[u32], held: usize, page: u64, k: usize) -> usize
+    requires { ⌜ Notes (now file) (now last) held (pagesIn (now file) (now last) held) ⌝ }
+    requires { ⌜ page ≡ itemAt (now file) k .page ⌝ }
+    requires { ⌜ k < 18446744073709551615 ⌝ }
+    ensures { λ r. ⌜ FirstNoted (take held (now (last .entry))) k r ⌝ }
+{
+    let j = scan(file, last, held, page);
+    if held <= j {
+        return k + 1;
+    }
+    if note_at(last, j) == k {
+        return k;
+    }
+    k + 1
+}
+
+// The first item from k on that the filter may note: k if it does. The numbers on the chain of item k's page tell that, and where the chain is long
+// the place of its page. Now and then all places are gone through there, and tell how far on the next one is: one such search serves all items up to it.
 pub fn first_noted(
     file: &[u8],
     last: &[u32],
@@ -165,7 +185,10 @@ pub fn first_noted(
             return k;
         }
         if left == 0 {
-            return next_noted(last, held, k);
+            if k % FAR == 0 {
+                return next_noted(last, held, k);
+            }
+            return noted_at_page(file, last, held, x.page, k);
         }
         left -= 1;
         p = chains::link(next, p - 1);
