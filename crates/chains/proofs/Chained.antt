@@ -78,6 +78,10 @@ module _ {key m : ℕ → ℕ} {n k v : ℕ} where
       skips : newest key k n ≡ newest key k e
       skips = s .rest ∙ newest-skips key m k v (s .from) (λ j o. apart j (omega (arith, s .within))) ∙ rw (← s .here)
 
+      -- No place beyond it has the key.
+      pub seeking-most : newest key k n ≤ e
+      seeking-most = rw skips (newest-most key k e)
+
       -- The chain is passed: no place has the key.
       pub seeking-end : e ≤ 0 → newest key k n ≡ 0
       unfolding newest

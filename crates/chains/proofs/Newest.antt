@@ -36,6 +36,17 @@ module _ (m : ℕ → ℕ) (v : ℕ) where
       (rw q at (same (m i) v e), omega arith))
       (λ e. let r = newest-at i j (rw e at h) in (r .0, omega (arith, r .1)))
 
+  -- Beyond it the mark stands nowhere.
+  pub newest-beyond : (i j : ℕ) → newest m v i ≤ j → j < i → m j ≡ v → ⊥
+  unfolding newest
+  newest-beyond zero j h o q = omega arith
+  newest-beyond (suc i) j h o q =
+      split (eqb (m i) v)
+      (λ e. let z : suc i ≤ j = rw e at h in omega arith)
+      (λ e. split (eqb j i)
+      (λ t. eqb-false (m i) v e (rw (same j i t) at q))
+      (λ t. let d = eqb-false j i t in newest-beyond i j (rw e at h) (omega arith) q))
+
 -- Marks that are the same at the first i places have the same last place there.
 pub newest-same : (m m′ : ℕ → ℕ) (v i : ℕ) → ((j : ℕ) → j < i → m j ≡ m′ j) → newest m v i ≡ newest m′ v i
 unfolding newest

@@ -1,8 +1,8 @@
 -- A page more, at the end of a list of distinct pages. Assumes nothing.
 use Prim.Native.Nat.{ℕ, suc, _≤_}
 use mathlib.Core.Path.{_≡_, refl, sym, ap, _∙_}
-use mathlib.Core.Bool.{Bool, true, false, cond, _||_, or-assoc, or-false}
-use mathlib.Core.List.{List, [], _∷_, _++_, append-nil}
+use mathlib.Core.Bool.{Bool, true, false, cond, _||_, or-assoc, or-comm, or-false}
+use mathlib.Core.List.{List, [], _∷_, _++_, append-nil, reverse, reverse-cons}
 use native.Mathlib.Omega.{arith}
 use lib.ListN.{length, length-append}
 use lib.Dec.{eqb}
@@ -48,8 +48,14 @@ add-begins p l = split (has p l) (λ h. ([], add-old p l h ∙ sym (append-nil l
 
 -- ---- no page twice
 
+-- A list backwards has the same pages.
+pub has-reverse : (x : ℕ) (l : List ℕ) → has x (reverse l) ≡ has x l
+unfolding has
+has-reverse x [] = refl
+has-reverse x (q ∷ l) = rw (reverse-cons q l, has-join x (reverse l) (q ∷ []), has-reverse x l) (or-comm (has x l) (eqb x q || false) ∙ rw (or-false (eqb x q)))
+
 -- A new page at the end of a list of distinct pages.
-distinct-new : (p : ℕ) (l : List ℕ) → has p l ≡ false → Distinct l → Distinct (l ++ (p ∷ []))
+pub distinct-new : (p : ℕ) (l : List ℕ) → has p l ≡ false → Distinct l → Distinct (l ++ (p ∷ []))
 unfolding has
 distinct-new p [] h d = (refl, tt)
 distinct-new p (q ∷ l) h d =
@@ -59,3 +65,9 @@ distinct-new p (q ∷ l) h d =
 -- Distinct pages are distinct with a page more.
 pub distinct-add : (p : ℕ) (l : List ℕ) → Distinct l → Distinct (add p l)
 distinct-add p l d = split (has p l) (λ h. rw (add-old p l h) d) (λ h. rw (add-new p l h) (distinct-new p l h d))
+
+-- Distinct pages are distinct backwards.
+pub distinct-reverse : (l : List ℕ) → Distinct l → Distinct (reverse l)
+unfolding has
+distinct-reverse [] d = tt
+distinct-reverse (q ∷ l) d = rw (reverse-cons q l) (distinct-new q (reverse l) (has-reverse q l ∙ d .0) (distinct-reverse l (d .1)))

@@ -48,6 +48,17 @@ module _ (p : ℕ) where
   remove-append-left [] r h = absurd (false≢true h)
   remove-append-left (q ∷ l) r h = split (eqb p q) (λ e. rw e) (λ e. rw e (ap (λ (k : List ℕ). q ∷ k) (remove-append-left l r (rw e at h))))
 
+  -- A page that is not in a list is not removed, and another at its end stays there.
+  pub remove-absent : (a : List ℕ) → has p a ≡ false → remove p a ≡ a
+  unfolding has remove
+  remove-absent [] h = refl
+  remove-absent (q ∷ a) h = let z = or-false (eqb p q) (has p a) h in rw (z .0) (ap (λ (l : List ℕ). q ∷ l) (remove-absent a (z .1)))
+
+  pub remove-snoc : (y : ℕ) (a : List ℕ) → eqb p y ≡ false → remove p (a ++ (y ∷ [])) ≡ remove p a ++ (y ∷ [])
+  unfolding remove
+  remove-snoc y [] h = rw h
+  remove-snoc y (q ∷ a) h = split (eqb p q) (λ e. rw e) (λ e. rw e (ap (λ (l : List ℕ). q ∷ l) (remove-snoc y a h)))
+
   -- What is not in a list is not in it after a removal, and p is not if it stood there once.
   pub has-remove : (x : ℕ) (a : List ℕ) → has x a ≡ false → has x (remove p a) ≡ false
   unfolding has remove

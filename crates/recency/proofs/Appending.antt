@@ -1,0 +1,246 @@
+-- A use of a page: one that is resident, and one that comes in. Assumes nothing.
+use Prim.Native.Nat.{ℕ, suc, _+_, _-_, _≤_, _<_}
+use mathlib.Core.Path.{_≡_, refl, sym, ap, _∙_}
+use mathlib.Core.Bool.{true, false, _||_, or-false, or-true, false≢true}
+use mathlib.Core.List.{List, [], _∷_, _++_}
+use native.Mathlib.Omega.{arith}
+use native.Mathlib.Numerals.{add-one}
+use lib.ListN.{length, getD, take, drop, set, length-set, length-drop}
+use lib.Seq.{length-take-le, getD-take, getD-drop, getD-set-same, getD-set-other, take-suc-set, drop-append-le}
+use lib.Dec.{eqb, ltb}
+use borrow.Author.Tests.{lt-ltb, le-ltb, ltb-true, ltb-false, eq-eqb, ne-eqb, eqb-false}
+use Rattle.pages.specs.Pages.{has, remove, place}
+use Rattle.pages.proofs.Choice.{split, same}
+use Rattle.pages.proofs.Added.{has-join}
+use Rattle.pages.proofs.Pages.{length-move, remove-absent}
+use Rattle.pages.proofs.Table.{has-getD, getD-place, place-within}
+use Rattle.chains.specs.Chains.{at, newest}
+use Rattle.chains.proofs.Newest.{newest-at, newest-beyond, newest-most}
+use Rattle.recency.specs.Order.{order}
+use Rattle.recency.specs.Linked.{Linked, CanLink, lastFrom}
+use Rattle.recency.specs.Held.{part, residents, Marked, Logged, Held, Holds, CanPack, CanShorten, Shortened, CanAppend, CanRenew, CanEnter, CanEvict, Gone}
+use Rattle.recency.specs.declared.Queue.{Queue}
+use Rattle.recency.specs.declared.Evicted.{Evicted}
+use Rattle.recency.proofs.Order.{order-use, has-order, length-order, lasts-most}
+use Rattle.recency.proofs.Linking.{linked-store}
+use Rattle.recency.proofs.Counting.{part-none}
+use Rattle.recency.proofs.Fresh.{whole, shortened-count, shortened-holds}
+
+-- ---- where a page stands
+
+module _ (log : List ℕ) (low end p : ℕ) (behind : low ≤ end) (within : end ≤ length log) where
+  reads : (j : ℕ) → low + j < end → getD (part log low end) j 0 ≡ getD log (low + j) 0
+  reads j h = getD-drop low (take end log) j 0 ∙ getD-take end log (low + j) 0 h
+
+  long : length (part log low end) ≡ end - low
+  long = length-drop low (take end log) ∙ rw (length-take-le end log within)
+
+  -- A page that stands in a part of a log is in it.
+  pub has-part : (r : ℕ) → low ≤ r → r < end → getD log r 0 ≡ p → has p (part log low end) ≡ true
+  has-part r f h q =
+      let u : low + (r - low) ≡ r = omega arith in
+      has-getD p (part log low end) (r - low) (omega (arith, long)) (reads (r - low) (omega arith) ∙ rw u q)
+
+  -- It is in it exactly if its last place is.
+  pub has-last : has p (part log low end) ≡ ltb low (newest (at log) p end)
+  unfolding at
+  has-last =
+      split (ltb low (newest (at log) p end))
+      (λ t.
+      let j = newest (at log) p end - 1 in
+      let o = ltb-true low (newest (at log) p end) t in
+      let z = newest-at (at log) p end j (omega arith) in
+      rw t (has-part j (omega arith) (z .1) (z .0)))
+      (λ t. split (has p (part log low end))
+      (λ h.
+      let j = place p (part log low end) in
+      let w = place-within p (part log low end) h in
+      let g = getD-place p (part log low end) h in
+      let o : low + j < end = omega (arith, long) in
+      absurd (newest-beyond (at log) p end (low + j) (omega (arith, ltb-false low (newest (at log) p end) t)) o (sym (reads j o) ∙ g)))
+      (λ h. h ∙ sym t))
+
+module _ {log next stale heads : List ℕ} {q : Queue} (h : Held log next stale heads q) where
+  -- A page is resident exactly if its last place is found.
+  pub has-held : (p : ℕ) {e : ℕ} → e ≡ lastFrom (q .low) log (q .now) p → has p (residents log q) ≡ ltb (q .low) e
+  unfolding residents lastFrom
+  has-held p {e} k =
+      has-order p (part log (q .low) (q .now)) ∙ has-last log (q .low) (q .now) p (h .logged .behind) (h .logged .within)
+      ∙ split (ltb (q .low) (newest (at log) p (q .now)))
+      (λ t. let z : e ≡ newest (at log) p (q .now) = rw t at k in ap (ltb (q .low)) (sym z))
+      (λ t. let z : e ≡ 0 = rw t at k in t ∙ sym (rw z (le-ltb (q .low) 0 (omega arith))))
+
+  pub length-held : length (residents log q) ≡ q .resident
+  length-held = h .logged .count
+
+  few : q .resident < length log
+  unfolding residents
+  few =
+      let w = part log (q .low) (q .now) in
+      omega (arith, h .logged .count, length-order w, lasts-most w, long log (q .low) (q .now) 0 (h .logged .behind) (h .logged .within), h .room)
+
+  -- The rows hold the cache after an eviction too.
+  pub gone-held : {r : Evicted} → Gone log stale q r → Held log next stale heads (r .queue)
+  gone-held g = record { logged = g .logged; linked = rw (g .now-is) (h .linked); room = rw (g .now-is) (h .room) }
+
+-- ---- a page appended
+
+module _ {log next stale heads : List ℕ} {q : Queue} {m page : ℕ} (can : CanAppend log next stale heads q m page) where
+  abbrev log′ : List ℕ
+  log′ = set log (q .now) page
+
+  abbrev stale′ : List ℕ
+  stale′ = set stale (q .now) 0
+
+  pub append-stales : q .now < length stale
+  append-stales = omega (arith, can .room, can .stale-long)
+
+  pub append-link : CanLink log′ next heads (q .now)
+  append-link = record { linked = linked-store (can .linked) (q .now) page (omega arith); room = rw length-set (can .room) }
+
+  was : List ℕ
+  was = take (q .now) log
+
+  was-long : length (take (q .now) log) ≡ q .now
+  was-long = length-take-le (q .now) log (omega (arith, can .room))
+
+  longer : take (q .now + 1) log′ ≡ take (q .now) log ++ (page ∷ [])
+  longer = rw add-one (take-suc-set log (q .now) page (can .room))
+
+  order-is : order (part log′ (q .low) (q .now + 1)) ≡ page ∷ remove page (residents log q)
+  unfolding residents
+  order-is = rw (longer, drop-append-le (q .low) (take (q .now) log) (page ∷ []) (omega (arith, was-long, can .behind))) (order-use page (part log (q .low) (q .now)))
+
+  marked : Marked log′ stale′ (q .low) (q .now + 1)
+  unfolding has
+  marked = record {
+    are = λ r f h. split (eqb r (q .now))
+        (λ t.
+        let z = same r (q .now) t in
+        rw (z, getD-set-same stale (q .now) 0 0 append-stales, le-ltb 0 0 (omega arith), part-none log′ (q .now + 1) (rw length-set (omega (arith, can .room))) (q .now + 1) (omega arith)))
+        (λ t.
+        let d = eqb-false r (q .now) t in
+        rw (
+          getD-set-other stale (q .now) r 0 0 d,
+          getD-set-other log (q .now) r page 0 d,
+          longer,
+          drop-append-le (r + 1) (take (q .now) log) (page ∷ []) (omega (arith, was-long)),
+          has-join (getD log r 0) (drop (r + 1) (take (q .now) log)) (page ∷ []),
+          or-false (eqb (getD log r 0) page),
+        ) (can .marks r f (omega arith)));
+  }
+
+  pub append-shorten : {next′ heads′ : List ℕ} → Linked log′ next′ heads′ (q .now + 1) → CanShorten log′ next′ stale′ heads′ (q .low) (q .now + 1)
+  append-shorten l = record {
+    pack = record { behind = omega (arith, can .behind); within = rw length-set (omega (arith, can .room)); stale-long = rw (length-set, length-set) (can .stale-long); marked = marked };
+    linked = l;
+  }
+
+  -- With room for a use more,
+  pub appended : {next′ heads′ : List ℕ} → Linked log′ next′ heads′ (q .now + 1) → q .now + 1 < length log′
+      → Holds (page ∷ remove page (residents log q)) log′ next′ stale′ heads′ (record { resident = m; low = q .low; now = q .now + 1 })
+  unfolding residents
+  appended l r = record {
+    held = record {
+      logged = record {
+        behind = omega (arith, can .behind);
+        within = rw length-set (omega (arith, can .room));
+        stale-long = rw (length-set, length-set) (can .stale-long);
+        marked = marked;
+        count = rw order-is (can .count);
+      };
+      linked = l;
+      room = r;
+    };
+    pages-are = order-is;
+  }
+
+  -- or made short.
+  pub append-short : {log₂ next₂ stale₂ heads₂ : List ℕ} {n : ℕ} → Shortened log′ (q .low) (q .now + 1) log₂ next₂ stale₂ heads₂ n
+      → length log₂ ≡ length log′ → length stale₂ ≡ length stale′ → Holds (page ∷ remove page (residents log q)) log₂ next₂ stale₂ heads₂ (whole n)
+  append-short {log₂} {n = n} s a b =
+      let c : n ≡ m = shortened-count s ∙ ap length order-is ∙ can .count in
+      let a′ : length log₂ ≡ length log = a ∙ length-set log (q .now) page in
+      rw order-is at (shortened-holds s (omega (arith, can .few)) (omega (arith, b, length-set stale (q .now) 0, can .stale-long)))
+
+-- ---- a page that is resident
+
+module _ {log next stale heads : List ℕ} {q : Queue} {page e : ℕ} (can : CanRenew log next stale heads q page e) where
+  last : newest (at log) page (q .now) ≡ e
+  unfolding lastFrom
+  last =
+      split (ltb (q .low) (newest (at log) page (q .now)))
+      (λ t. sym (rw t at (can .last)))
+      (λ t. let z : e ≡ 0 = rw t at (can .last) in absurd (omega (arith, can .found)))
+
+  place-of : (getD log (e - 1) 0 ≡ page) × (e - 1 < q .now)
+  unfolding at
+  place-of = newest-at (at log) page (q .now) (e - 1) (last ∙ omega (arith, can .found))
+
+  pub renew-stales : e - 1 < length stale
+  renew-stales = omega (arith, place-of .1, can .held .room, can .held .logged .stale-long)
+
+  -- What stands before the page's last place is stale already.
+  marks : (r : ℕ) → q .low ≤ r → r < q .now → ltb 0 (getD (set stale (e - 1) 1) r 0) ≡ has (getD log r 0) (drop (r + 1) (take (q .now) log)) || eqb (getD log r 0) page
+  unfolding at
+  marks r f h =
+      let l = can .held .logged in
+      split (eqb r (e - 1))
+      (λ t.
+      let z = same r (e - 1) t in
+      rw (z, getD-set-same stale (e - 1) 1 0 renew-stales, lt-ltb 0 1 (omega arith), eq-eqb (getD log (e - 1) 0) page (place-of .0), or-true))
+      (λ t.
+      let d = eqb-false r (e - 1) t in
+      rw (getD-set-other stale (e - 1) r 1 0 d, l .marked .are r f h) (split (eqb (getD log r 0) page)
+      (λ y.
+      let o : r < e - 1 = split (ltb r (e - 1))
+          (λ u. ltb-true r (e - 1) u)
+          (λ u. let v = ltb-false r (e - 1) u in absurd (newest-beyond (at log) page (q .now) r (omega (arith, last, can .found)) h (same (getD log r 0) page y))) in
+      rw (y, or-true) (has-part log (r + 1) (q .now) (getD log r 0) (omega arith) (l .within) (e - 1) (omega arith) (place-of .1) (place-of .0 ∙ sym (same (getD log r 0) page y))))
+      (λ y. rw (y, or-false))))
+
+  pub renew-append : CanAppend log next (set stale (e - 1) 1) heads q (q .resident) page
+  renew-append =
+      let h = can .held in
+      record {
+        behind = h .logged .behind;
+        stale-long = rw length-set (h .logged .stale-long);
+        linked = h .linked;
+        room = h .room;
+        marks = marks;
+        count = length-move page (residents log q) (has-held h page (can .last) ∙ lt-ltb (q .low) e (can .found)) ∙ length-held h;
+        few = few h;
+      }
+
+-- ---- a page that comes in
+
+module _ {log next stale heads : List ℕ} {q : Queue} {page : ℕ} (can : CanEnter log next stale heads q page) where
+  other : (r : ℕ) → q .low ≤ r → r < q .now → eqb (getD log r 0) page ≡ false
+  unfolding residents
+  other r f h =
+      split (eqb (getD log r 0) page)
+      (λ t.
+      let l = can .held .logged in
+      let y = has-part log (q .low) (q .now) page (l .behind) (l .within) r f h (same (getD log r 0) page t) in
+      absurd (false≢true (sym (can .new) ∙ has-order page (part log (q .low) (q .now)) ∙ y)))
+      (λ t. t)
+
+  absent : remove page (residents log q) ≡ residents log q
+  absent = remove-absent page (residents log q) (can .new)
+
+  pub enter-append : CanAppend log next stale heads q (q .resident + 1) page
+  enter-append =
+      let h = can .held in
+      record {
+        behind = h .logged .behind;
+        stale-long = h .logged .stale-long;
+        linked = h .linked;
+        room = h .room;
+        marks = λ r f o. rw (other r f o, or-false) (h .logged .marked .are r f o);
+        count = rw absent (omega (arith, length-held h));
+        few = can .few;
+      }
+
+  pub entered : {log′ next′ stale′ heads′ : List ℕ} {r : Queue} → Holds (page ∷ remove page (residents log q)) log′ next′ stale′ heads′ r
+      → Holds (page ∷ residents log q) log′ next′ stale′ heads′ r
+  entered w = rw absent at w

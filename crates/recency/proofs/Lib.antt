@@ -1,0 +1,10 @@
+pub mod Order
+pub mod Linking
+pub mod Counting
+pub mod Indexing
+pub mod Packing
+pub mod Aging
+pub mod Copying
+pub mod Saving
+pub mod Fresh
+pub mod Appending

@@ -1,0 +1,29 @@
+-- `recency::copy_back` meets its contract. Assumes nothing.
+use borrow.Author.Needs.{needs}
+use Rattle.recency.proofs.Copying.{Copying, copying-none, copying-reads, copying-writes, copying-more, copying-all}
+use Rattle.recency.proofs.copy_back.Statement.{statement}
+use Rattle.recency.proofs.copy_back.Tie as tie
+
+abbrev Inv-loop : tie.InvT-loop
+Inv-loop list log₀ i₀ r₀ log i r = Copying list log₀ log i r
+
+abbrev μ-loop : tie.MeasureT-loop
+μ-loop list log₀ i₀ r₀ log i r = r
+
+pub copy-back-spec : {M : Type 1} → statement M
+copy-back-spec =
+    tie.close
+    (tie.spec
+    Inv-loop
+    μ-loop
+    (λ c. search copying-none)
+    (λ c. search needs)
+    (λ c. search (copying-reads, needs))
+    (λ c. search copying-reads)
+    (λ c. search (copying-writes, needs))
+    (λ c. search copying-writes)
+    (λ c. search (copying-writes, needs))
+    (λ c. search needs)
+    (λ c. search copying-more)
+    (λ c. search needs)
+    (λ c. search copying-all))
