@@ -12,7 +12,7 @@ mod run;
 pub use check::{check, items};
 pub use join::join;
 pub use reduce::reduce;
-pub use replay::replay;
+pub use replay::{replay, replay_with};
 pub use run::{Run, run};
 pub use types::{Header, Library, Refusal, Summary};
 

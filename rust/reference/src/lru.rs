@@ -1,7 +1,8 @@
 //! An LRU list with constant work for each touch: a map from page to place,
 //! and the order of use as links between the places of one vector.
 
-use crate::page_map::PageMap;
+use crate::page_map::{PageMap, PageState};
+use std::hash::BuildHasher;
 
 struct Place {
     page: u64,
@@ -16,9 +17,10 @@ const NONE: u32 = u32::MAX;
 /// one goes and one comes, and a tight map would tidy up all the time.
 const SPARE: usize = 4;
 
-pub struct Lru {
+/// `S` is the hash of its map.
+pub struct Lru<S = PageState> {
     size: usize,
-    place_of: PageMap<u32>,
+    place_of: PageMap<u32, S>,
     places: Vec<Place>,
     newest: u32,
     oldest: u32,
@@ -30,13 +32,13 @@ pub enum Touch {
     Fetch { evicted: Option<u64> },
 }
 
-impl Lru {
+impl<S: BuildHasher + Default> Lru<S> {
     /// A list with room for `size` pages, holding these distinct ones, most
     /// recently used first.
     pub fn start(size: usize, pages: &[u64]) -> Self {
         let mut list = Lru {
             size,
-            place_of: PageMap::with_capacity_and_hasher(SPARE * size, Default::default()),
+            place_of: PageMap::with_capacity_and_hasher(SPARE * size, S::default()),
             places: Vec::with_capacity(size),
             newest: NONE,
             oldest: NONE,

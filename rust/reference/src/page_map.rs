@@ -4,8 +4,11 @@
 use std::collections::{HashMap, HashSet};
 use std::hash::{BuildHasherDefault, Hasher};
 
-pub type PageMap<V> = HashMap<u64, V, BuildHasherDefault<PageHasher>>;
-pub type PageSet = HashSet<u64, BuildHasherDefault<PageHasher>>;
+/// Makes the hash of this file; any other can take its place.
+pub type PageState = BuildHasherDefault<PageHasher>;
+
+pub type PageMap<V, S = PageState> = HashMap<u64, V, S>;
+pub type PageSet<S = PageState> = HashSet<u64, S>;
 
 #[derive(Default)]
 pub struct PageHasher(u64);

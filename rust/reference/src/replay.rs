@@ -2,8 +2,9 @@
 
 use crate::check::{check, items};
 use crate::lru::Lru;
-use crate::page_map::PageSet;
+use crate::page_map::{PageSet, PageState};
 use crate::run::{NUMBERS_PER_EVENT, step_over};
+use std::hash::BuildHasher;
 use types::limits::{LARGEST_CACHE, RESERVED_PAGE};
 use types::{Refusal, Summary};
 
@@ -16,9 +17,20 @@ pub fn replay(
     resident: usize,
     events: &mut [u64],
 ) -> Result<Summary, (Refusal, u64)> {
-    admit(file, size, cache, resident, events.len())
+    replay_with::<PageState>(file, size, cache, resident, events)
+}
+
+/// The same with another hash of pages, in the list and for the start.
+pub fn replay_with<S: BuildHasher + Default>(
+    file: &[u8],
+    size: u64,
+    cache: &mut [u64],
+    resident: usize,
+    events: &mut [u64],
+) -> Result<Summary, (Refusal, u64)> {
+    admit::<S>(file, size, cache, resident, events.len())
         .map_err(|refusal| (refusal, resident as u64))?;
-    let mut list = Lru::start(size as usize, &cache[..resident]);
+    let mut list = Lru::<S>::start(size as usize, &cache[..resident]);
     let mut places = events.chunks_exact_mut(NUMBERS_PER_EVENT);
     let summary = step_over(&mut list, items(file), |event| {
         let place = places.next().expect("room for each fetch");
@@ -31,7 +43,7 @@ pub fn replay(
 }
 
 /// The refusals of a replay in their order.
-fn admit(
+fn admit<S: BuildHasher + Default>(
     file: &[u8],
     size: u64,
     cache: &[u64],
@@ -45,7 +57,7 @@ fn admit(
     if size < header.filter {
         return Err(Refusal::new(9));
     }
-    if !can_start(size as usize, cache, resident) {
+    if !can_start::<S>(size as usize, cache, resident) {
         return Err(Refusal::new(10));
     }
     if room < NUMBERS_PER_EVENT * header.items as usize {
@@ -55,11 +67,11 @@ fn admit(
 }
 
 /// Whether the first places of the lent buffer can be a starting cache.
-fn can_start(size: usize, cache: &[u64], resident: usize) -> bool {
+fn can_start<S: BuildHasher + Default>(size: usize, cache: &[u64], resident: usize) -> bool {
     if resident > size || cache.len() < size {
         return false;
     }
-    let mut seen = PageSet::default();
+    let mut seen = PageSet::<S>::default();
     cache[..resident]
         .iter()
         .all(|page| *page != RESERVED_PAGE && seen.insert(*page))

@@ -2,6 +2,7 @@
 //! longer than any file: a whole recording.
 
 use crate::lru::{Lru, Touch};
+use std::hash::BuildHasher;
 use types::limits::RESERVED_PAGE;
 use types::{Item, Summary};
 
@@ -20,7 +21,7 @@ pub struct Run {
 /// Runs a cache of `size` pages, not 0, over the items. It starts with these
 /// pages, which are distinct and no more than it has room for.
 pub fn run(items: impl IntoIterator<Item = Item>, size: usize, start: &[u64]) -> Run {
-    let mut list = Lru::start(size, start);
+    let mut list: Lru = Lru::start(size, start);
     let mut events = Vec::new();
     let summary = step_over(&mut list, items, |event| events.extend_from_slice(&event));
     Run {
@@ -31,8 +32,8 @@ pub fn run(items: impl IntoIterator<Item = Item>, size: usize, start: &[u64]) ->
 }
 
 /// Moves the list over all items and tells of each fetch.
-pub(crate) fn step_over(
-    list: &mut Lru,
+pub(crate) fn step_over<S: BuildHasher + Default>(
+    list: &mut Lru<S>,
     items: impl IntoIterator<Item = Item>,
     mut fetched: impl FnMut([u64; NUMBERS_PER_EVENT]),
 ) -> Summary {
