@@ -1,7 +1,7 @@
 //! The traces that are timed.
 
 use compare::Random;
-use compare::buckets::{self, Halves};
+use compare::buckets::{FILTER, Halves};
 use std::iter::once_with;
 use types::Item;
 use types::layout::whole;
@@ -56,7 +56,7 @@ pub fn hostile() -> impl Iterator<Item = Trace> {
 /// Traces whose pages all fall in one bucket.
 fn one_bucket() -> impl Iterator<Item = Trace> {
     let halves = Halves::Lower { upper: 0 };
-    let pages = buckets::pages(&mut Random::new(SEED), 0, halves, ITEMS as usize);
+    let pages = FILTER.pages(&mut Random::new(SEED), 0, halves, ITEMS as usize);
     let orders: [(&'static str, Order); 7] = [
         ("sequential", |number, _| number),
         ("loop 1023", |number, _| number % FILL),
@@ -127,7 +127,7 @@ mod tests {
     fn the_stride_fills_few_buckets() {
         let mut sharing = HashMap::new();
         for number in 0..FILL {
-            *sharing.entry(buckets::bucket(number * STRIDE)).or_insert(0) += 1;
+            *sharing.entry(FILTER.bucket(number * STRIDE)).or_insert(0) += 1;
         }
         assert_eq!(sharing.len(), 112);
         assert!(sharing.values().all(|count| [9, 10].contains(count)));

@@ -1,22 +1,50 @@
-//! Pages chosen against the reducer's filter. It finds a page by chains, one
-//! for each bucket; here are as many pages of one bucket as a trace can want.
+//! Pages chosen against the reducer's filter and against the replay's log. Both
+//! find a page by chains, one for each bucket; here are as many pages of one
+//! bucket as a trace can want.
 
 use crate::Random;
 use types::limits::RESERVED_PAGE;
-
-pub const BUCKETS: u64 = 1024;
 
 /// What the lower and the upper half of a page are multiplied with.
 const LOWER: u32 = 1_640_531_527;
 const UPPER: u32 = 1_540_483_477;
 
-/// So many sums in a row, modulo 2^32, fall in one bucket.
-const WIDTH: u32 = 4_194_304;
+/// A table of so many buckets, a power of two. A page's sum, modulo 2^32, says
+/// in which of them it falls, and all have the same share of the sums.
+#[derive(Clone, Copy, Debug, PartialEq, Eq)]
+pub struct Table {
+    pub buckets: u64,
+}
 
-/// The bucket of a page, as the filter computes it.
-pub fn bucket(page: u64) -> u64 {
-    let (lower, upper) = (page % (1 << 32), page / (1 << 32));
-    (lower * u64::from(LOWER) + upper * u64::from(UPPER)) / u64::from(WIDTH) % BUCKETS
+/// The reducer's filter.
+pub const FILTER: Table = Table { buckets: 1024 };
+
+/// The replay's log.
+pub const LOG: Table = Table { buckets: 8192 };
+
+impl Table {
+    /// So many sums in a row fall in one bucket.
+    const fn width(self) -> u64 {
+        (1 << u32::BITS) / self.buckets
+    }
+
+    /// The bucket of a page, as the proved library computes it.
+    pub fn bucket(self, page: u64) -> u64 {
+        let (lower, upper) = (page % (1 << 32), page / (1 << 32));
+        (lower * u64::from(LOWER) + upper * u64::from(UPPER)) / self.width() % self.buckets
+    }
+
+    /// So many pages of one bucket, or all if it has fewer. A page has one sum,
+    /// so where sums are distinct pages are. A bucket of the filter has enough
+    /// for a file of distinct pages, one of the log for half of it.
+    pub fn pages(self, random: &mut Random, bucket: u64, halves: Halves, count: usize) -> Vec<u64> {
+        let first = bucket * self.width();
+        (first..first + self.width())
+            .map(|sum| halves.page(random, sum as u32))
+            .filter(|page| *page != RESERVED_PAGE)
+            .take(count)
+            .collect()
+    }
 }
 
 /// Which half of a page tells it from the others of its bucket.
@@ -60,17 +88,6 @@ impl Halves {
     }
 }
 
-/// So many pages of one bucket. A page has one sum, so where sums are distinct
-/// pages are; a bucket has enough for a file of distinct pages.
-pub fn pages(random: &mut Random, bucket: u64, halves: Halves, count: usize) -> Vec<u64> {
-    let first = bucket as u32 * WIDTH;
-    (first..=first + (WIDTH - 1))
-        .map(|sum| halves.page(random, sum))
-        .filter(|page| *page != RESERVED_PAGE)
-        .take(count)
-        .collect()
-}
-
 fn lower_of(sum: u32, upper: u32) -> u32 {
     let rest = sum.wrapping_sub(upper.wrapping_mul(UPPER));
     rest.wrapping_mul(inverse(LOWER))
@@ -98,22 +115,33 @@ mod tests {
         assert_eq!(UPPER.wrapping_mul(inverse(UPPER)), 1);
     }
 
+    #[test]
+    fn sums_of_a_bucket() {
+        assert_eq!([FILTER, LOG].map(Table::width), [4_194_304, 524_288]);
+    }
+
     /// By hand: 1640531527 / 4194304 is 391 and a bit, 1540483477 / 4194304 is
-    /// 367 and a bit.
+    /// 367 and a bit; with 524288 they are 3129 and 2938, each and a bit.
     #[test]
     fn buckets_of_a_few_pages() {
         let pages = [0, 1, 2, 3, 1 << 32, (1 << 32) + 1];
-        assert_eq!(pages.map(bucket), [0, 391, 782, 149, 367, 758]);
+        let buckets = |table: Table| pages.map(|page| table.bucket(page));
+        assert_eq!(buckets(FILTER), [0, 391, 782, 149, 367, 758]);
+        assert_eq!(buckets(LOG), [0, 3129, 6258, 1195, 2938, 6067]);
     }
 
-    /// `crates/filter/specs/Examples.antt` computes this row (`buckets-of`) from
-    /// the proved filter's own definition. Should that change, this formula has
-    /// to follow: pages of one bucket here would not be of one bucket there, and
-    /// no hostile trace would be hostile any more.
+    /// The first row is computed in `crates/filter/specs/Examples.antt`
+    /// (`buckets-of`) from the proved filter's own definition. The second is to
+    /// be computed in `crates/recency/specs/Examples.antt`, under the same name,
+    /// from that of the replay's log. Should a definition change, the formula
+    /// here has to follow: pages of one bucket here would not be of one bucket
+    /// there, and no hostile trace would be hostile any more.
     #[test]
     fn buckets_as_the_specification_computes_them() {
         let pages = [0, 1, 2, 987, 4294967296, 18446744073709551615];
-        assert_eq!(pages.map(bucket), [0, 391, 782, 0, 367, 265]);
+        let buckets = |table: Table| pages.map(|page| table.bucket(page));
+        assert_eq!(buckets(FILTER), [0, 391, 782, 0, 367, 265]);
+        assert_eq!(buckets(LOG), [0, 3129, 6258, 3, 2938, 2124]);
     }
 
     #[test]
@@ -122,14 +150,16 @@ mod tests {
         let mut kinds: Vec<Halves> = (0..30).map(|_| Halves::random(&mut random)).collect();
         kinds.extend([0, u32::MAX].map(|upper| Halves::Lower { upper }));
         kinds.extend([0, u32::MAX].map(|lower| Halves::Upper { lower }));
-        for halves in kinds {
-            for of in [0, 1, random.below(BUCKETS), BUCKETS - 1] {
-                let mut pages = pages(&mut random, of, halves, 3000);
-                assert!(pages.iter().all(|page| bucket(*page) == of), "{halves:?}");
+        for (halves, table) in kinds.iter().flat_map(|of| [(*of, FILTER), (*of, LOG)]) {
+            let buckets = table.buckets;
+            for of in [0, 1, random.below(buckets), buckets - 1] {
+                let mut pages = table.pages(&mut random, of, halves, 3000);
+                let is_in = |page: &u64| table.bucket(*page) == of;
+                assert!(pages.iter().all(is_in), "{halves:?} {table:?}");
                 assert!(!pages.contains(&RESERVED_PAGE));
                 pages.sort_unstable();
                 pages.dedup();
-                assert_eq!(pages.len(), 3000, "{halves:?}");
+                assert_eq!(pages.len(), 3000, "{halves:?} {table:?}");
             }
         }
     }
@@ -139,8 +169,11 @@ mod tests {
     fn the_reserved_page_is_left_out() {
         let mut random = Random::new(1);
         let halves = Halves::Lower { upper: u32::MAX };
-        let all = pages(&mut random, bucket(RESERVED_PAGE), halves, usize::MAX);
-        assert!(!all.contains(&RESERVED_PAGE));
-        assert_eq!(all.len() as u32, WIDTH - 1);
+        for table in [FILTER, LOG] {
+            let bucket = table.bucket(RESERVED_PAGE);
+            let all = table.pages(&mut random, bucket, halves, usize::MAX);
+            assert!(!all.contains(&RESERVED_PAGE));
+            assert_eq!(all.len() as u64, table.width() - 1);
+        }
     }
 }

@@ -4,7 +4,7 @@
 //! Here the first item is noted too, and one pass over the items decides; how
 //! the proved reducer's second pass finds what is noted has no counterpart.
 
-use crate::buckets::{BUCKETS, bucket};
+use crate::buckets::FILTER;
 use types::Item;
 
 const PLACES: usize = 1024;
@@ -72,7 +72,7 @@ pub struct Filter<'a> {
     fault: Option<FilterFault>,
     first: [usize; PLACES],
     last: [usize; PLACES],
-    heads: [u16; BUCKETS as usize],
+    heads: [u16; FILTER.buckets as usize],
     next: [u16; PLACES],
     held: usize,
     /// What a head holds up to this is of an earlier epoch.
@@ -87,7 +87,7 @@ impl<'a> Filter<'a> {
             fault,
             first: [0; PLACES],
             last: [0; PLACES],
-            heads: [0; BUCKETS as usize],
+            heads: [0; FILTER.buckets as usize],
             next: [0; PLACES],
             held: 0,
             base: 0,
@@ -137,7 +137,7 @@ impl<'a> Filter<'a> {
         let page = self.items[item].page;
         let place = self.held;
         self.next[place] = self.head(page) as u16;
-        self.heads[bucket(page) as usize] = (self.base + place + 1) as u16;
+        self.heads[FILTER.bucket(page) as usize] = (self.base + place + 1) as u16;
         self.first[place] = item;
         self.last[place] = self.noted(item);
         self.held += 1;
@@ -164,7 +164,7 @@ impl<'a> Filter<'a> {
 
     /// The last place of a page's bucket, counted from 1, or 0.
     fn head(&mut self, page: u64) -> usize {
-        let number = usize::from(self.heads[bucket(page) as usize]);
+        let number = usize::from(self.heads[FILTER.bucket(page) as usize]);
         self.met.stale_heads += u64::from(0 < number && number <= self.base);
         number.saturating_sub(self.base)
     }

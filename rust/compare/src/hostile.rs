@@ -1,8 +1,8 @@
-//! Rows of pages made against a filter of chains: its chains long, or their
-//! places left behind by the epoch before.
+//! Rows of pages made against a table of chains: its chains long, or, in the
+//! filter, their places left behind by the epoch before.
 
 use crate::Random;
-use crate::buckets::{self, BUCKETS, Halves};
+use crate::buckets::{FILTER, Halves, Table};
 
 /// Where the pages of a row come from.
 #[derive(Clone, Copy, Debug, PartialEq, Eq)]
@@ -26,17 +26,17 @@ impl Pool {
         }
     }
 
-    /// So many distinct pages.
-    pub fn pages(self, random: &mut Random, count: usize) -> Vec<u64> {
-        let one = random.below(BUCKETS);
+    /// So many distinct pages. Those of one bucket are so in this table.
+    pub fn pages(self, table: Table, random: &mut Random, count: usize) -> Vec<u64> {
+        let one = random.below(table.buckets);
         match self {
             Pool::Plain => (0..count as u64).collect(),
-            Pool::OneBucket(halves) => buckets::pages(random, one, halves, count),
+            Pool::OneBucket(halves) => table.pages(random, one, halves, count),
             Pool::TwoBuckets(halves) => {
-                let two = (one + 1 + random.below(BUCKETS - 1)) % BUCKETS;
+                let two = (one + 1 + random.below(table.buckets - 1)) % table.buckets;
                 let each = count.div_ceil(2);
-                let one = buckets::pages(random, one, halves, each);
-                let two = buckets::pages(random, two, halves, each);
+                let one = table.pages(random, one, halves, each);
+                let two = table.pages(random, two, halves, each);
                 let turns = one.into_iter().zip(two).flat_map(|(one, two)| [one, two]);
                 turns.take(count).collect()
             }
@@ -100,8 +100,8 @@ impl Order {
 /// place of the epoch before for one of this epoch finds such a page in it.
 pub fn around_the_ends(random: &mut Random, filter: usize, count: usize) -> Vec<u64> {
     let halves = Halves::random(random);
-    let bucket = random.below(BUCKETS);
-    let sharing = buckets::pages(random, bucket, halves, 4);
+    let bucket = random.below(FILTER.buckets);
+    let sharing = FILTER.pages(random, bucket, halves, 4);
     let mut others = 0;
     let mut row = Vec::with_capacity(count);
     while row.len() < count {
@@ -142,11 +142,11 @@ mod tests {
 
     #[test]
     fn plain_pages_share_a_bucket_in_twos_at_most() {
-        let pages = Pool::Plain.pages(&mut Random::new(1), 150_000);
+        let pages = Pool::Plain.pages(FILTER, &mut Random::new(1), 150_000);
         for row in pages.windows(LARGEST_FILTER as usize).step_by(100) {
-            let mut sharing = [0; BUCKETS as usize];
+            let mut sharing = [0; FILTER.buckets as usize];
             for page in row {
-                sharing[buckets::bucket(*page) as usize] += 1;
+                sharing[FILTER.bucket(*page) as usize] += 1;
             }
             assert!(sharing.iter().all(|count| *count <= 2), "{}", row[0]);
         }

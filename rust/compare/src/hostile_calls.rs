@@ -1,7 +1,7 @@
 //! Reductions of traces made against the filter: short ones by the thousand,
 //! and ones long enough that the numbers of its heads come to their end.
 
-use crate::buckets::Halves;
+use crate::buckets::{FILTER, Halves};
 use crate::hostile::{Order, Pool, around_the_ends};
 use crate::{Case, Random, traces};
 use types::Item;
@@ -41,7 +41,7 @@ pub fn any(random: &mut Random) -> Case {
 
 fn short(random: &mut Random, filter: usize, count: usize) -> Vec<Item> {
     let pages = 1 + random.index(2 * filter + 12);
-    let pool = Pool::random(random).pages(random, pages);
+    let pool = Pool::random(random).pages(FILTER, random, pages);
     let row = match random.below(4) {
         0 => around_the_ends(random, filter, count),
         1 => return traces::items(random, &pool, count),
@@ -82,7 +82,7 @@ pub fn long(random: &mut Random, filter: u64) -> Vec<Vec<Item>> {
     let mut rows: Vec<Vec<u64>> = rows
         .into_iter()
         .map(|(pool, pages, order)| {
-            let pages = pool.pages(random, pages);
+            let pages = pool.pages(FILTER, random, pages);
             order.row(random, &pages, count)
         })
         .collect();

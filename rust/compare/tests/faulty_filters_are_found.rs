@@ -1,6 +1,7 @@
 //! The hostile traces have teeth: they find each fault of a filter of chains.
 //! Short plain traces with a small filter find one.
 
+use compare::buckets::FILTER;
 use compare::faulty_filter::{ALL, FaultyFilter, FilterFault};
 use compare::hostile::{Order, Pool};
 use compare::hostile_calls::{MODES, any, long, reduce};
@@ -38,7 +39,7 @@ fn long_cases() -> Vec<Case> {
 /// Few pages side by side, as an example has them, with a small filter.
 fn plain_cases() -> Vec<Case> {
     let mut random = Random::new(Random::seed() ^ 20);
-    let pool = Pool::Plain.pages(&mut random, 40);
+    let pool = Pool::Plain.pages(FILTER, &mut random, 40);
     let mut cases = Vec::new();
     for pages in 1..=pool.len() {
         let items = traces::items(&mut random, &pool[..pages], 3_000);

@@ -1,7 +1,7 @@
 //! Files of 1,000,000 items whose pages share a bucket or two.
 
 use bindings::Proved;
-use compare::buckets::Halves;
+use compare::buckets::{FILTER, Halves};
 use compare::hostile::{Order, Pool};
 use compare::hostile_calls::{MODES, reduce};
 use compare::report::say_seen;
@@ -49,7 +49,7 @@ const PARTS: [(Pool, usize, Order); 11] = [
 
 fn part(random: &mut Random, part: (Pool, usize, Order), count: usize) -> Vec<u64> {
     let (pool, pages, order) = part;
-    let pages = pool.pages(random, pages);
+    let pages = pool.pages(FILTER, random, pages);
     order.row(random, &pages, count)
 }
 

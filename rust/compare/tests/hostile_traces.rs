@@ -2,7 +2,7 @@
 //! an earlier epoch has left, and more pages than its heads have numbers for.
 
 use bindings::Proved;
-use compare::buckets::{Halves, pages};
+use compare::buckets::{FILTER, Halves};
 use compare::faulty_filter::met;
 use compare::hostile_calls::{MODES, any, long, reduce};
 use compare::report::{say, say_seen};
@@ -35,8 +35,8 @@ fn every_small_trace() {
     let mut random = Random::new(Random::seed() ^ 16);
     let mut judge = Judge::new(&Proved, &Reference);
     let halves = Halves::random(&mut random);
-    let one = pages(&mut random, 7, halves, 4);
-    let two = pages(&mut random, 8, halves, 2);
+    let one = FILTER.pages(&mut random, 7, halves, 4);
+    let two = FILTER.pages(&mut random, 8, halves, 2);
     let calls = [1, 2, 3].map(|filter| MODES.map(|mode| (mode, filter)));
     for pages in [&one[..], &[one[0], one[1], two[0], two[1]]] {
         for length in 0..=7 {

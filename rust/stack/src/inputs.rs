@@ -1,7 +1,7 @@
 //! The traces on which the stack is measured: they take the reducer's filter
 //! to all that it does.
 
-use compare::buckets::Halves;
+use compare::buckets::{FILTER, Halves};
 use compare::hostile::{Order, Pool};
 use compare::{Random, traces};
 use types::layout::{ITEM_BYTES, ITEM_TAG, encode, whole};
@@ -14,7 +14,7 @@ const DEMAND: u64 = 2;
 
 fn trace(pool: Pool, pages: usize, order: Order, count: usize) -> Vec<Item> {
     let mut random = Random::new(Random::seed());
-    let pool = pool.pages(&mut random, pages);
+    let pool = pool.pages(FILTER, &mut random, pages);
     let row = order.row(&mut random, &pool, count);
     traces::timed(&mut random, &row)
 }
