@@ -50,7 +50,8 @@ fn short(random: &mut Random, filter: usize, count: usize) -> Vec<Item> {
     traces::timed(random, &row)
 }
 
-fn order(random: &mut Random, filter: usize) -> Order {
+/// An order that fills so many places, or one more or fewer, and goes on.
+pub fn order(random: &mut Random, filter: usize) -> Order {
     let fill = (filter + random.index(3)).saturating_sub(1).max(1);
     let again = 1 + random.index(filter + 10);
     random.pick(&[

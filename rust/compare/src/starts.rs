@@ -31,7 +31,7 @@ fn cache_size(random: &mut Random, largest: u64) -> u64 {
 }
 
 /// Distinct pages, some of the trace and some strange to it.
-fn pages(random: &mut Random, pool: &[u64], size: u64) -> Vec<u64> {
+pub fn pages(random: &mut Random, pool: &[u64], size: u64) -> Vec<u64> {
     let mut pages: Vec<u64> = pool.to_vec();
     pages.extend((0..20).map(|_| random.bits() >> 1));
     pages.sort_unstable();
