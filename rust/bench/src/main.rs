@@ -1,56 +1,66 @@
 //! Times the proved library against the reference on full-size files.
 
+mod arguments;
+mod growth;
+mod hostile;
+mod hostile_traces;
 mod job;
+mod reduce;
+mod replay;
+mod std_hash;
 mod table;
 mod timing;
 mod traces;
 
-use job::Job;
+use arguments::{Part, Wanted};
 use std::process::ExitCode;
 
 const USAGE: &str = "\
-bench [--quick]
+bench [PART]... [--quick]
 
-Times check, reduce, join and replay on traces of 1,000,000 items, proved
-library against reference, both optimised. Each figure is the median of
-several rounds in which the two take turns. A second table has the proved
-library's reductions of hostile traces.
+Times the proved library against the reference, both optimised, on traces of
+1,000,000 items where no other number is told. Each figure is the median of
+several rounds in which the libraries take turns. Without a part, all of them.
 
+  reduce    check, join and reduce on three traces
+  replay    replay on the same traces with caches of 1 to 4,096 pages; also
+            against the reference with the hash of Rust's standard library
+  growth    replay as the cache grows, on loops of hits alone and of fetches
+            alone, and as the trace grows; and what a call costs at least
+  hostile   reductions and replays of traces whose pages share a bucket: the
+            proved library alone, to be compared with another archive
+            (SHKEMBRUQ_ARCHIVE)
   --quick   fewer rounds
 ";
 
 const ROUNDS: usize = 7;
 const QUICK_ROUNDS: usize = 3;
-const HOSTILE_ROUNDS: usize = 3;
 
 fn main() -> ExitCode {
-    let arguments: Vec<String> = std::env::args().skip(1).collect();
-    let words: Vec<&str> = arguments.iter().map(String::as_str).collect();
-    match words[..] {
-        [] => run(ROUNDS),
-        ["--quick"] => run(QUICK_ROUNDS),
-        ["--help" | "-h"] => print!("{USAGE}"),
-        _ => {
-            eprint!("{USAGE}");
-            return ExitCode::from(2);
+    let words: Vec<String> = std::env::args().skip(1).collect();
+    if let ["--help" | "-h"] = words.iter().map(String::as_str).collect::<Vec<_>>()[..] {
+        print!("{USAGE}");
+        return ExitCode::SUCCESS;
+    }
+    let Some(wanted) = Wanted::read(&words) else {
+        eprint!("{USAGE}");
+        return ExitCode::from(2);
+    };
+    let rounds = if wanted.quick { QUICK_ROUNDS } else { ROUNDS };
+    for (number, part) in wanted.parts.iter().enumerate() {
+        if number > 0 {
+            println!();
         }
+        run(*part, rounds);
     }
     ExitCode::SUCCESS
 }
 
-fn run(rounds: usize) {
-    table::head(rounds);
-    for trace in traces::all() {
-        for job in Job::all() {
-            let times = timing::compare(&job, &trace, rounds);
-            table::line(&job, &trace, &times);
-        }
-    }
-    table::hostile_head(HOSTILE_ROUNDS);
-    for trace in traces::hostile() {
-        for job in Job::hostile() {
-            let time = timing::alone(&job, &trace, HOSTILE_ROUNDS);
-            table::hostile_line(&job, &trace, time);
-        }
+fn run(part: Part, rounds: usize) {
+    match part {
+        Part::Reduce => reduce::run(rounds),
+        Part::Replay => replay::run(rounds),
+        Part::Growth => growth::run(rounds),
+        Part::Hostile => hostile::run(),
     }
 }

@@ -1,55 +1,63 @@
-//! The table of results.
+//! The tables of results: the proved library, then each of its counterparts
+//! with the ratio to it.
 
 use crate::job::Job;
-use crate::timing::Times;
-use crate::traces::{ITEMS, Trace};
+use crate::traces::Trace;
 use std::io::Write;
 use std::time::Duration;
 
-pub fn head(rounds: usize) {
-    println!("{ITEMS} items, median of {rounds} rounds, the two libraries taking turns.");
-    println!("Buffers are made once for each line and not cleared between rounds; a");
-    println!("replay starts with an empty cache. Ratio: proved time / reference time.");
+/// The counterparts of a table.
+pub const REFERENCE: [&str; 1] = ["reference"];
+pub const BOTH: [&str; 2] = ["reference", "std"];
+
+/// What a figure is of.
+#[derive(Clone, Copy)]
+pub enum Unit {
+    Item,
+    Call,
+}
+
+impl Unit {
+    fn name(self) -> &'static str {
+        match self {
+            Unit::Item => "ns/item",
+            Unit::Call => "µs/call",
+        }
+    }
+
+    fn figure(self, trace: &Trace, time: Duration) -> f64 {
+        let nanos = time.as_nanos() as f64;
+        match self {
+            Unit::Item => nanos / trace.items as f64,
+            Unit::Call => nanos / 1_000.0,
+        }
+    }
+}
+
+/// The names of the columns, after an empty line.
+pub fn head(unit: Unit, counterparts: &[&str]) {
+    let unit = unit.name();
+    let proved = format!("proved {unit}");
+    print!("\n{:<20} {:<24} {proved:>14}", "trace", "call");
+    for (number, name) in counterparts.iter().enumerate() {
+        let ratio = match number {
+            0 => "ratio".to_string(),
+            _ => format!("ratio to {name}"),
+        };
+        print!(" {:>17} {ratio:>12}", format!("{name} {unit}"));
+    }
     println!();
-    println!(
-        "{:<12} {:<24} {:>14} {:>17} {:>8}",
-        "trace", "call", "proved ns/item", "reference ns/item", "ratio"
-    );
 }
 
-pub fn line(job: &Job, trace: &Trace, times: &Times) {
-    println!(
-        "{:<12} {:<24} {:>14.2} {:>17.2} {:>8.2}",
-        trace.name,
-        job.name(),
-        each(times.proved),
-        each(times.reference),
-        times.proved.as_secs_f64() / times.reference.as_secs_f64()
-    );
-    show();
-}
-
-pub fn hostile_head(rounds: usize) {
+/// The proved library's time, then those of the counterparts.
+pub fn line(unit: Unit, trace: &Trace, job: &Job, times: &[Duration]) {
+    let figures: Vec<f64> = times.iter().map(|time| unit.figure(trace, *time)).collect();
+    let (name, call, proved) = (&trace.name, job.name(), figures[0]);
+    print!("{name:<20} {call:<24} {proved:>14.2}");
+    for counterpart in &figures[1..] {
+        print!(" {counterpart:>17.2} {:>12.2}", proved / counterpart);
+    }
     println!();
-    println!("Hostile traces: as many items, whose pages all fall in one bucket of the");
-    println!("reducer's filter. In the last, stride 414, they do not: it is a loop over 1,023");
-    println!("pages, every 414th from 0 on, which fall in 112 buckets, nine or ten in each.");
-    println!("The proved library alone, median of {rounds} rounds, to be compared with the same");
-    println!("lines of other code.");
-    println!();
-    println!("{:<20} {:<24} {:>14}", "trace", "call", "proved ns/item");
-}
-
-pub fn hostile_line(job: &Job, trace: &Trace, time: Duration) {
-    println!("{:<20} {:<24} {:>14.2}", trace.name, job.name(), each(time));
-    show();
-}
-
-fn each(time: Duration) -> f64 {
-    time.as_nanos() as f64 / ITEMS as f64
-}
-
-/// A line takes a while; show it as soon as it is there.
-fn show() {
+    // A line takes a while; show it as soon as it is there.
     let _ = std::io::stdout().flush();
 }

@@ -1,5 +1,5 @@
-//! Medians of rounds in which the two libraries take turns, so that whatever
-//! else the machine does hits both alike.
+//! Medians of rounds in which the libraries take turns, so that whatever else
+//! the machine does hits all alike.
 
 use crate::job::{Buffers, Job, Outcome};
 use crate::traces::Trace;
@@ -8,31 +8,31 @@ use reference::Reference;
 use std::time::{Duration, Instant};
 use types::Library;
 
-pub struct Times {
-    pub proved: Duration,
-    pub reference: Duration,
-}
+/// So often a job is done in a round if its trace is as short as a clock's
+/// step, or hardly longer.
+const CALLS: u32 = 200;
+const SHORT: u64 = 10;
 
-pub fn compare(job: &Job, trace: &Trace, rounds: usize) -> Times {
-    let (mut proved, mut reference) = (Vec::new(), Vec::new());
-    let (mut one, mut two) = (job.buffers(trace), job.buffers(trace));
+/// For each library the median time of a call.
+pub fn compare<const N: usize>(
+    libraries: [&dyn Library; N],
+    job: &Job,
+    trace: &Trace,
+    rounds: usize,
+) -> [Duration; N] {
+    let mut buffers = [(); N].map(|()| job.buffers(trace));
+    let mut times = [(); N].map(|()| Vec::new());
     for round in 0..rounds {
+        let mut outcomes = Vec::new();
         // Who goes first changes from round to round.
-        let order = match round % 2 {
-            0 => [true, false],
-            _ => [false, true],
-        };
-        let mut outcomes = order.map(|is_proved| match is_proved {
-            true => timed(&Proved, job, trace, &mut one, &mut proved),
-            false => timed(&Reference, job, trace, &mut two, &mut reference),
-        });
-        outcomes.sort_unstable();
-        assert_eq!(outcomes[0], outcomes[1], "the two differ: {}", job.name());
+        for who in (0..N).map(|turn| (round + turn) % N) {
+            let (buffers, times) = (&mut buffers[who], &mut times[who]);
+            outcomes.push(timed(libraries[who], job, trace, buffers, times));
+        }
+        let is_same = |outcome: &Outcome| *outcome == outcomes[0];
+        assert!(outcomes.iter().all(is_same), "they differ: {}", job.name());
     }
-    Times {
-        proved: median(proved),
-        reference: median(reference),
-    }
+    times.map(median)
 }
 
 /// The proved library alone, for times that are compared with those of the
@@ -55,9 +55,13 @@ fn timed(
     buffers: &mut Buffers,
     times: &mut Vec<Duration>,
 ) -> Outcome {
+    let calls = if trace.items < SHORT { CALLS } else { 1 };
     let start = Instant::now();
+    for _ in 1..calls {
+        job.run(library, trace, buffers);
+    }
     let outcome = job.run(library, trace, buffers);
-    times.push(start.elapsed());
+    times.push(start.elapsed() / calls);
     outcome
 }
 
