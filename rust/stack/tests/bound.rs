@@ -1,4 +1,5 @@
-//! The bound on the reducer's stack, and figures for all else.
+//! The bounds on the stack of the reducer and of the replay, and figures for
+//! all else.
 
 use compare::report::say;
 use stack::figures::{
@@ -11,6 +12,9 @@ use stack::programs::{measured, written};
 /// What `shkembruq_reduce` may take in all, in either mode.
 const REDUCE: usize = 9 << 10;
 
+/// What `shkembruq_replay` may take in all, from any start.
+const REPLAY: usize = 128 << 10;
+
 /// Nothing takes nothing, and nothing takes more than could be measured.
 fn told(figures: Result<Vec<Figure>, String>) -> Vec<Figure> {
     let figures = figures.unwrap_or_else(|error| panic!("{error}"));
@@ -21,11 +25,20 @@ fn told(figures: Result<Vec<Figure>, String>) -> Vec<Figure> {
     figures
 }
 
+fn keeps_to(bound: usize, figures: Result<Vec<Figure>, String>) {
+    for Figure { name, depth } in told(figures) {
+        assert!(depth <= bound, "{name}: {depth} bytes, more than {bound}");
+    }
+}
+
 #[test]
 fn reduce_keeps_to_nine_kibibytes() {
-    for Figure { name, depth } in told(of_reduce()) {
-        assert!(depth <= REDUCE, "{name}: {depth} bytes, more than {REDUCE}");
-    }
+    keeps_to(REDUCE, of_reduce());
+}
+
+#[test]
+fn replay_keeps_to_128_kibibytes() {
+    keeps_to(REPLAY, of_replay());
 }
 
 /// Nothing on the stack grows with the filter: its places are there at any size.
@@ -41,7 +54,7 @@ fn reduce_takes_the_same_with_every_filter() {
 
 #[test]
 fn the_other_functions_are_measured() {
-    for figures in [of_check, of_join, of_replay] {
+    for figures in [of_check, of_join] {
         told(figures());
     }
 }
