@@ -27,6 +27,7 @@ use Rattle.lru.specs.declared.Summary.{Summary}
 use Rattle.lru.specs.declared.Replayed.the-variants.{Done, Refused}
 use Rattle.lru.proofs.Counting.{tally-counts, fetches-few}
 use Rattle.lru.proofs.Judging.{Playable, sound-playable}
+use Rattle.lru.proofs.Room.{starts-fine}
 
 module _ (f : List ℕ) (K : ℕ) (cache : List ℕ) (resident : ℕ) (events : List ℕ) {v : Verdict} (e : v ≡ replayVerdict f K cache resident (length events)) where
   -- ---- a refusal is told, and changes nothing
@@ -44,59 +45,79 @@ module _ (f : List ℕ) (K : ℕ) (cache : List ℕ) (resident : ℕ) (events : 
     unfolding eventsAfter
     refused-events = rw (← e, q, eventsAfter)
 
-  -- ---- a replay
+  -- ---- a replay is told, and stands in the buffers
 
   module _ (s : v ≡ Sound) where
-    able : Playable f K cache resident (length events)
-    able = sound-playable f K cache resident (length events) (sym e ∙ s)
+    pub done-sound : replayVerdict f K cache resident (length events) ≡ Sound
+    done-sound = sym e ∙ s
 
-    long : length f ≡ 23 + 19 * header f .items
-    long = sound-file f (able .file-is) .long
+    pub done-answer : {a : Summary} → a ≡ summaryOf f K cache resident → Done a ≡ replayAnswer f K cache resident (length events)
+    unfolding replayAnswer
+    done-answer t = rw (← e, s, t, replayAnswer)
 
-    -- The header can be read.
-    pub played-long : 23 ≤ length f
-    played-long = omega (arith, long)
+    pub done-cache : {cache′ : List ℕ} → cache′ ≡ over (replayOf f K cache resident .final) cache → cache′ ≡ cacheAfter f K cache resident (length events)
+    unfolding cacheAfter
+    done-cache t = t ∙ rw (← e, s, cacheAfter)
 
-    module _ {h : Header} (q : h ≡ header f) where
-      -- The loop may begin.
-      pub played-run : CanRun f (h .items) K resident cache events
-      played-run =
-          let a = able in
-          rw q (record {
-            file-long = omega (arith, long);
-            few = allowed-facts (header f) (sound-file f (a .file-is) .keeps) .few;
-            some = a .least;
-            places = a .places;
-            within = a .within;
-            room = a .fits;
-          })
+    pub done-events : {events′ : List ℕ} → events′ ≡ over (words (replayOf f K cache resident .events)) events → events′ ≡ eventsAfter f K cache resident events
+    unfolding eventsAfter
+    done-events t = t ∙ rw (← e, s, eventsAfter)
 
-      module _ {r : Finish} {cache′ events′ : List ℕ}
-          (d : Ran (replay K (take resident cache) (itemsFrom f 0 (h .items))) (tally K (take resident cache) nothing (itemsFrom f 0 (h .items))) cache events r cache′ events′) where
-        items-are : itemsFrom f 0 (h .items) ≡ items f
-        items-are = rw (q, items-from f)
+-- ---- the replay of a file that is not refused
 
-        -- There are no more fetches than items.
-        pub played-few : r .tally .fetches ≤ itemsMost
-        played-few =
-            let t = itemsFrom f 0 (h .items) in
-            let c = tally-counts K (take resident cache) t in
-            let n = played-run in
-            rw (d .tally-is) (omega (arith, fetches-few K (take resident cache) t, length-from f 0 (h .items), n .few))
+module _ (f : List ℕ) (K : ℕ) (cache : List ℕ) (resident : ℕ) (events : List ℕ) (s : replayVerdict f K cache resident (length events) ≡ Sound) where
+  able : Playable f K cache resident (length events)
+  able = sound-playable f K cache resident (length events) s
 
-        -- The answer is the tally, the residents and the rate.
-        pub played-answer : {p : ℕ} → p ≡ perMillion (r .tally .fetches) (r .tally .items)
-            → Done (record { items = r .tally .items; fetches = r .tally .fetches; evictions = r .tally .evictions; resident = r .resident; permillion = p })
-            ≡ replayAnswer f K cache resident (length events)
-        unfolding replayAnswer summaryOf replayOf
-        played-answer w = rw (w, d .tally-is, d .resident-is, items-are, ← e, s, replayAnswer)
+  long : length f ≡ 23 + 19 * header f .items
+  long = sound-file f (able .file-is) .long
 
-        -- The cache holds the residents.
-        pub played-cache : cache′ ≡ cacheAfter f K cache resident (length events)
-        unfolding cacheAfter replayOf
-        played-cache = d .cache-is ∙ rw (← e, s, items-are, cacheAfter)
+  -- The header can be read.
+  pub played-long : 23 ≤ length f
+  played-long = omega (arith, long)
 
-        -- And the events are written.
-        pub played-events : events′ ≡ eventsAfter f K cache resident events
-        unfolding eventsAfter replayOf
-        played-events = d .events-are ∙ rw (← e, s, items-are, eventsAfter)
+  module _ {h : Header} (q : h ≡ header f) where
+    -- The loop may begin.
+    pub played-run : CanRun f (h .items) K resident cache events
+    played-run =
+        let a = able in
+        rw q (record {
+          file-long = omega (arith, long);
+          few = allowed-facts (header f) (sound-file f (a .file-is) .keeps) .few;
+          some = a .least;
+          most = a .most;
+          places = a .places;
+          within = a .within;
+          once = (starts-fine K cache resident (a .start-is)) .0 .distinct;
+          room = a .fits;
+        })
+
+    module _ {r : Finish} {cache′ events′ : List ℕ}
+        (d : Ran (replay K (take resident cache) (itemsFrom f 0 (h .items))) (tally K (take resident cache) nothing (itemsFrom f 0 (h .items))) cache events r cache′ events′) where
+      items-are : itemsFrom f 0 (h .items) ≡ items f
+      items-are = rw (q, items-from f)
+
+      -- There are no more fetches than items.
+      pub played-few : r .tally .fetches ≤ itemsMost
+      played-few =
+          let t = itemsFrom f 0 (h .items) in
+          let c = tally-counts K (take resident cache) t in
+          let n = played-run in
+          rw (d .tally-is) (omega (arith, fetches-few K (take resident cache) t, length-from f 0 (h .items), n .few))
+
+      -- The answer is the tally, the residents and the rate.
+      pub played-summary : {p : ℕ} → p ≡ perMillion (r .tally .fetches) (r .tally .items)
+          → _≡_ {A = Summary} (record { items = r .tally .items; fetches = r .tally .fetches; evictions = r .tally .evictions; resident = r .resident; permillion = p })
+          (summaryOf f K cache resident)
+      unfolding summaryOf replayOf
+      played-summary w = rw (w, d .tally-is, d .resident-is, items-are)
+
+      -- The cache holds the residents.
+      pub played-cache : cache′ ≡ over (replayOf f K cache resident .final) cache
+      unfolding replayOf
+      played-cache = d .cache-is ∙ rw items-are
+
+      -- And the events are written.
+      pub played-events : events′ ≡ over (words (replayOf f K cache resident .events)) events
+      unfolding replayOf
+      played-events = d .events-are ∙ rw items-are

@@ -1,45 +1,85 @@
 -- What the code's own functions are told, and what they leave. Assumes nothing.
-use Prim.Native.Nat.{ℕ, _+_, _*_, _≤_}
+use Prim.Native.Nat.{ℕ, _+_, _*_, _≤_, _<_}
 use mathlib.Core.Path.{_≡_}
 use mathlib.Core.List.{List}
-use lib.ListN.{length}
+use lib.ListN.{length, take}
 use lib.Seq.{sets}
-use Rattle.limits.proofs.Numbers.{itemsMost}
+use Rattle.limits.proofs.Numbers.{itemsMost, cacheMost}
 use Rattle.pages.specs.Rows.{over}
-use Rattle.lru.specs.Lru.{Outcome, words}
-use Rattle.lru.specs.Tally.{isFetch, isEviction}
+use Rattle.pages.specs.Pages.{Distinct}
+use Rattle.recency.specs.Linked.{buckets}
+use Rattle.recency.specs.Held.{Held, Holds}
+use Rattle.recency.specs.declared.Queue.{Queue}
+use Rattle.trace.specs.Layout.{itemsFrom}
+use Rattle.lru.specs.Lru.{Outcome, words, replay}
+use Rattle.lru.specs.Tally.{nothing, isFetch, isEviction, tally}
 use Rattle.lru.specs.declared.Tally.{Tally}
 use Rattle.lru.specs.declared.Effect.{Effect}
+use Rattle.lru.specs.declared.Played.{Played}
 use Rattle.lru.specs.declared.Finish.{Finish}
 
--- An item can be taken: the pages are within K, and K within the buffer, and there is room for one event more.
-pub record CanStep (K resident fetches : ℕ) (cache events : List ℕ) : Type 0 where
+-- ---- one item
+
+-- The rows hold a cache of at most K pages, and have room for K.
+pub record Ready (K : ℕ) (log next stale heads : List ℕ) (q : Queue) : Type 0 where
+  pub held : Held log next stale heads q
   pub some : 1 ≤ K
-  pub places : K ≤ length cache
-  pub within : resident ≤ K
+  pub small : K < length log
+  pub within : q .resident ≤ K
+
+-- An item can be taken: there is room for one event more.
+pub record CanStep (K fetches : ℕ) (log next stale heads : List ℕ) (q : Queue) (events : List ℕ) : Type 0 where
+  pub ready : Ready K log next stale heads q
   pub room : 3 * fetches + 3 ≤ length events
 
--- One item's outcome o stands in the buffers, and is told.
-pub record Stepped (o : Outcome) (fetches : ℕ) (cache events : List ℕ) (r : Effect) (cache′ events′ : List ℕ) : Type 0 where
-  pub cache-is : cache′ ≡ over (o .final) cache
+-- One item's outcome o stands in the rows and the events, and is told.
+pub record Stepped (o : Outcome) (K fetches : ℕ) (events : List ℕ) (r : Effect) (log′ next′ stale′ heads′ events′ : List ℕ) : Type 0 where
+  pub holds : Holds (o .final) log′ next′ stale′ heads′ (r .queue)
+  pub within : r .queue .resident ≤ K
   pub events-are : events′ ≡ sets events (3 * fetches) (words (o .events))
-  pub resident-is : r .resident ≡ length (o .final)
   pub fetched-is : r .fetched ≡ isFetch (o .events)
   pub evicted-is : r .evicted ≡ isEviction (o .events)
 
--- What one item can do to the number of residents.
-pub record Moved (K resident : ℕ) (r : Effect) : Type 0 where
-  pub within : r .resident ≤ K
-  pub grows : resident ≤ r .resident
+-- ---- all items
+
+-- A replay of n items can begin with the cache that the rows hold.
+pub record CanPlay (file : List ℕ) (n K : ℕ) (log next stale heads : List ℕ) (q : Queue) (events : List ℕ) : Type 0 where
+  pub file-long : 23 + 19 * n ≤ length file
+  pub few : n ≤ itemsMost
+  pub ready : Ready K log next stale heads q
+  pub room : 3 * n ≤ length events
+
+-- The outcome o stands in the rows and the events, with its tally c.
+pub record Turned (o : Outcome) (c : Tally) (K : ℕ) (events : List ℕ) (r : Played) (log′ next′ stale′ heads′ events′ : List ℕ) : Type 0 where
+  pub holds : Holds (o .final) log′ next′ stale′ heads′ (r .queue)
+  pub within : r .queue .resident ≤ K
+  pub events-are : events′ ≡ over (words (o .events)) events
+  pub tally-is : r .tally ≡ c
+
+-- The replay of the first n items of a file, from a list of pages, does.
+abbrev pub Replays : List ℕ → ℕ → ℕ → List ℕ → List ℕ → Played → List ℕ → List ℕ → List ℕ → List ℕ → List ℕ → Type 0
+Replays file n K s events =
+    let u = itemsFrom file 0 n in
+    Turned (replay K s u) (tally K s nothing u) K events
 
 -- A replay of n items can begin.
 pub record CanRun (file : List ℕ) (n K resident : ℕ) (cache events : List ℕ) : Type 0 where
   pub file-long : 23 + 19 * n ≤ length file
   pub few : n ≤ itemsMost
   pub some : 1 ≤ K
+  pub most : K ≤ cacheMost
   pub places : K ≤ length cache
   pub within : resident ≤ K
+  pub once : Distinct (take resident cache)
   pub room : 3 * n ≤ length events
+
+-- The rows have room for the largest cache.
+pub record Rows (log next stale heads : List ℕ) : Type 0 where
+  pub log-long : cacheMost < length log
+  pub small : length log ≤ 65535
+  pub next-long : length log ≤ length next
+  pub stale-long : length log ≤ length stale
+  pub heads-long : buckets ≤ length heads
 
 -- The whole outcome o stands in the buffers, with its tally c.
 pub record Ran (o : Outcome) (c : Tally) (cache events : List ℕ) (r : Finish) (cache′ events′ : List ℕ) : Type 0 where
@@ -47,3 +87,17 @@ pub record Ran (o : Outcome) (c : Tally) (cache events : List ℕ) (r : Finish) 
   pub events-are : events′ ≡ over (words (o .events)) events
   pub resident-is : r .resident ≡ length (o .final)
   pub tally-is : r .tally ≡ c
+
+-- ---- the start
+
+-- The rows have room for a list's pages.
+pub record CanSift (list next heads : List ℕ) : Type 0 where
+  pub small : length list ≤ 65535
+  pub next-long : length list ≤ length next
+  pub heads-long : buckets ≤ length heads
+
+-- They have room for K pages.
+pub record CanStart (K : ℕ) (next heads : List ℕ) : Type 0 where
+  pub small : K ≤ 65535
+  pub next-long : K ≤ length next
+  pub heads-long : buckets ≤ length heads

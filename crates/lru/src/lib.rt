@@ -1,6 +1,7 @@
 // A replay of a trace through a cache that evicts the least recently used page.
 use limits::Cache;
 use limits::CacheMade;
+use recency::Queue;
 use trace::Item;
 use trace::Reason;
 use trace::Refusal;
@@ -10,13 +11,15 @@ ghost use mathlib.Core.List.{[], _∷_};
 ghost use Prim.Native.Nat.{_+_, _*_, _≤_, _<_};
 ghost use lib.ListN.{length, take};
 ghost use lib.Seq.{sets};
-ghost use Rattle.limits.proofs.Numbers.{itemsMost};
-ghost use Rattle.pages.specs.Pages.{front};
+ghost use Rattle.limits.proofs.Numbers.{itemsMost, cacheMost};
+ghost use Rattle.pages.specs.Rows.{over};
+ghost use Rattle.recency.specs.Held.{residents};
 ghost use Rattle.trace.specs.Layout.{itemsFrom};
-ghost use Rattle.lru.specs.Lru.{step as stepped, replay as lru};
+ghost use Rattle.trace.specs.declared.Verdict.the-variants.{Sound};
+ghost use Rattle.lru.specs.Lru.{step as stepped, replay as lru, words};
 ghost use Rattle.lru.specs.Tally.{oneOf, nothing, countedOf, HasRoom, tally as tallyOf, perMillion};
-ghost use Rattle.lru.specs.Replay.{twice, badStart, replayVerdict, replayAnswer, cacheAfter, eventsAfter};
-ghost use Rattle.lru.specs.Passes.{CanStep, Stepped, Moved, CanRun, Ran};
+ghost use Rattle.lru.specs.Replay.{twice, badStart, replayVerdict, replayOf, summaryOf, replayAnswer, cacheAfter, eventsAfter};
+ghost use Rattle.lru.specs.Passes.{CanStep, Stepped, CanPlay, Replays, CanRun, Rows, Ran, CanSift, CanStart};
 
 // How many items there were, and how many of them were fetches and evictions.
 pub struct Tally {
@@ -25,11 +28,17 @@ pub struct Tally {
     pub evictions: u64,
 }
 
-// What an item did: the pages resident after it, and whether a page was fetched and one evicted.
+// What an item did: the cache after it, and whether a page was fetched and one evicted.
 pub struct Effect {
-    pub resident: usize,
+    pub queue: Queue,
     pub fetched: bool,
     pub evicted: bool,
+}
+
+// What items did, with the cache after them.
+pub struct Played {
+    pub tally: Tally,
+    pub queue: Queue,
 }
 
 // What all items did.
@@ -93,22 +102,6 @@ fn count_one(mut t: Tally, fetched: bool, evicted: bool) -> Tally
     t
 }
 
-// The page goes to place 0, and those before place j move up by one, the last of them to place j.
-fn push_front(cache: &mut [u64], j: usize, page: u64)
-    requires { ⌜ j < length (now cache) ⌝ }
-    ensures { λ _. ⌜ now (cache .exit) ≡ front page j (now (cache .entry)) ⌝ }
-{
-    let mut held = page;
-    let mut i = 0;
-    while i < j {
-        let next = cache[i];
-        cache[i] = held;
-        held = next;
-        i += 1;
-    }
-    cache[j] = held;
-}
-
 // Three numbers from place `at` on.
 fn put(events: &mut [u64], at: usize, a: u64, b: u64, c: u64)
     requires { ⌜ at + 3 ≤ length (now events) ⌝ }
@@ -120,40 +113,84 @@ fn put(events: &mut [u64], at: usize, a: u64, b: u64, c: u64)
 }
 
 // One item.
-fn step(x: Item, k: usize, cache: &mut [u64], m: usize, events: &mut [u64], f: usize) -> Effect
-    requires { ⌜ CanStep k m f (now cache) (now events) ⌝ }
-    ensures { λ r. ⌜ Stepped (stepped k (take m (now (cache .entry))) x) f (now (cache .entry)) (now (events .entry)) r (now (cache .exit)) (now (events .exit)) ⌝ }
-    ensures { λ r. ⌜ Moved k m r ⌝ }
+fn step(
+    x: Item,
+    k: usize,
+    log: &mut [u64],
+    next: &mut [u16],
+    stale: &mut [u8],
+    heads: &mut [u16],
+    q: Queue,
+    events: &mut [u64],
+    f: usize,
+) -> Effect
+    requires { ⌜ CanStep k f (now log) (now next) (now stale) (now heads) q (now events) ⌝ }
+    ensures { λ r. ⌜ Stepped (stepped k (residents (now (log .entry)) q) x) k f (now (events .entry)) r (now (log .exit)) (now (next .exit)) (now (stale .exit)) (now (heads .exit)) (now (events .exit)) ⌝ }
 {
-    let j = pages::find(&cache[0..m], x.page);
-    if j < m {
-        push_front(cache, j, x.page);
+    let at = 3 * f;
+    let e = recency::find(log, next, heads, q.low, q.now, x.page);
+    if q.low < e {
+        let v = recency::renew(log, next, stale, heads, q, x.page, e);
         return Effect {
-            resident: m,
+            queue: v,
             fetched: false,
             evicted: false,
         };
     }
-    if m < k {
-        push_front(cache, m, x.page);
-        put(events, 3 * f, x.time, x.page, Item::RESERVED);
+    if q.resident < k {
+        let v = recency::enter(log, next, stale, heads, q, x.page);
+        put(events, at, x.time, x.page, Item::RESERVED);
         return Effect {
-            resident: m + 1,
+            queue: v,
             fetched: true,
             evicted: false,
         };
     }
-    let last = cache[m - 1];
-    push_front(cache, m - 1, x.page);
-    put(events, 3 * f, x.time, x.page, last);
+    let g = recency::evict(log, stale, q);
+    let v = recency::enter(log, next, stale, heads, g.queue, x.page);
+    put(events, at, x.time, x.page, g.page);
     Effect {
-        resident: m,
+        queue: v,
         fetched: true,
         evicted: true,
     }
 }
 
-// The first n items of a file, through a cache whose pages are the first `resident` places of the buffer.
+// The first n items of a file, through the cache that the rows hold.
+fn play(
+    file: &[u8],
+    n: usize,
+    k: usize,
+    log: &mut [u64],
+    next: &mut [u16],
+    stale: &mut [u8],
+    heads: &mut [u16],
+    start: Queue,
+    events: &mut [u64],
+) -> Played
+    requires { ⌜ CanPlay (now file) n k (now log) (now next) (now stale) (now heads) start (now events) ⌝ }
+    ensures { λ r. ⌜ Replays (now (file .entry)) n k (residents (now (log .entry)) start) (now (events .entry)) r (now (log .exit)) (now (next .exit)) (now (stale .exit)) (now (heads .exit)) (now (events .exit)) ⌝ }
+{
+    let mut t = Tally {
+        items: 0,
+        fetches: 0,
+        evictions: 0,
+    };
+    let mut q = start;
+    let mut i = 0;
+    while i < n {
+        let after = i + 1;
+        let x = trace::read::item_at(file, i);
+        let f = t.fetches as usize;
+        let s = step(x, k, log, next, stale, heads, q, events, f);
+        t = count_one(t, s.fetched, s.evicted);
+        q = s.queue;
+        i = after;
+    }
+    Played { tally: t, queue: q }
+}
+
+// The first n items of a file, through a cache whose pages are the first `resident` places of the buffer, in rows that are lent.
 fn run(
     file: &[u8],
     n: usize,
@@ -161,49 +198,46 @@ fn run(
     cache: &mut [u64],
     resident: usize,
     events: &mut [u64],
+    log: &mut [u64],
+    next: &mut [u16],
+    stale: &mut [u8],
+    heads: &mut [u16],
 ) -> Finish
     requires { ⌜ CanRun (now file) n k resident (now cache) (now events) ⌝ }
+    requires { ⌜ Rows (now log) (now next) (now stale) (now heads) ⌝ }
     ensures { λ r. ⌜ Ran (lru k (take resident (now (cache .entry))) (itemsFrom (now (file .entry)) 0 n)) (tallyOf k (take resident (now (cache .entry))) nothing (itemsFrom (now (file .entry)) 0 n)) (now (cache .entry)) (now (events .entry)) r (now (cache .exit)) (now (events .exit)) ⌝ }
 {
-    let mut t = Tally {
-        items: 0,
-        fetches: 0,
-        evictions: 0,
-    };
-    let mut m = resident;
-    let mut i = 0;
-    while i < n {
-        let x = trace::read::item_at(file, i);
-        let f = t.fetches as usize;
-        let s = step(x, k, cache, m, events, f);
-        t = count_one(t, s.fetched, s.evicted);
-        m = s.resident;
-        i += 1;
-    }
+    let q = recency::load(&cache[0..resident], log, next, stale, heads);
+    let d = play(file, n, k, log, next, stale, heads, q, events);
+    let t = d.tally;
+    let v = d.queue;
+    recency::save(log, stale, v, cache);
     Finish {
         tally: t,
-        resident: m,
+        resident: v.resident,
     }
 }
 
-// Whether a page stands twice.
-fn has_twice(list: &[u64]) -> bool
+// Whether a page stands twice: each is looked for among those before it, and then chained.
+fn has_twice(list: &[u64], next: &mut [u16], heads: &mut [u16]) -> bool
+    requires { ⌜ CanSift (now list) (now next) (now heads) ⌝ }
     ensures { λ r. ⌜ r ≡ twice (now (list .entry)) ⌝ }
 {
+    chains::clear(heads);
     let mut i = 0;
     while i < list.len() {
-        let next = i + 1;
-        let rest = &list[next..];
-        if pages::find(rest, list[i]) < rest.len() {
+        if 0 < recency::find(list, next, heads, 0, i, list[i]) {
             return true;
         }
-        i = next;
+        recency::link(list, next, heads, i);
+        i += 1;
     }
     false
 }
 
 // Whether a cache cannot start so.
-fn bad_start(k: usize, cache: &[u64], resident: usize) -> bool
+fn bad_start(k: usize, cache: &[u64], resident: usize, next: &mut [u16], heads: &mut [u16]) -> bool
+    requires { ⌜ CanStart k (now next) (now heads) ⌝ }
     ensures { λ r. ⌜ r ≡ badStart k (now (cache .entry)) resident ⌝ }
 {
     if k < resident {
@@ -213,14 +247,23 @@ fn bad_start(k: usize, cache: &[u64], resident: usize) -> bool
         return true;
     }
     let start = &cache[0..resident];
-    if has_twice(start) {
+    if has_twice(start, next, heads) {
         return true;
     }
     pages::find(start, Item::RESERVED) < start.len()
 }
 
 // Refusals 1 to 6, 7, 9, 10, 11.
-fn judge(file: &[u8], k: u64, cache: &[u64], resident: usize, room: usize) -> Verdict
+fn judge(
+    file: &[u8],
+    k: u64,
+    cache: &[u64],
+    resident: usize,
+    room: usize,
+    next: &mut [u16],
+    heads: &mut [u16],
+) -> Verdict
+    requires { ⌜ CanStart cacheMost (now next) (now heads) ⌝ }
     ensures { λ r. ⌜ r ≡ replayVerdict (now (file .entry)) k (now (cache .entry)) resident room ⌝ }
 {
     if let Verdict::Faulty(r) = trace::judge(file) {
@@ -233,7 +276,7 @@ fn judge(file: &[u8], k: u64, cache: &[u64], resident: usize, room: usize) -> Ve
     if k < h.filter {
         return Verdict::Faulty(Reason::SmallCache);
     }
-    if bad_start(k as usize, cache, resident) {
+    if bad_start(k as usize, cache, resident, next, heads) {
         return Verdict::Faulty(Reason::BadStart);
     }
     if 3 * h.items <= room as u64 {
@@ -253,6 +296,80 @@ fn per_million(fetches: u64, items: u64) -> u64
     fetches * 1000000 / items
 }
 
+// The replay of a file that is not refused.
+fn replay_sound(
+    file: &[u8],
+    k: u64,
+    cache: &mut [u64],
+    resident: usize,
+    events: &mut [u64],
+    log: &mut [u64],
+    next: &mut [u16],
+    stale: &mut [u8],
+    heads: &mut [u16],
+) -> Summary
+    requires { ⌜ replayVerdict (now file) k (now cache) resident (length (now events)) ≡ Sound ⌝ }
+    requires { ⌜ Rows (now log) (now next) (now stale) (now heads) ⌝ }
+    ensures { λ r. ⌜ r ≡ summaryOf (now (file .entry)) k (now (cache .entry)) resident ⌝ }
+    ensures { λ _. ⌜ now (cache .exit) ≡ over (replayOf (now (file .entry)) k (now (cache .entry)) resident .final) (now (cache .entry)) ⌝ }
+    ensures { λ _. ⌜ now (events .exit) ≡ over (words (replayOf (now (file .entry)) k (now (cache .entry)) resident .events)) (now (events .entry)) ⌝ }
+{
+    let h = trace::read::header_at(file);
+    let f = run(
+        file,
+        h.items as usize,
+        k as usize,
+        cache,
+        resident,
+        events,
+        log,
+        next,
+        stale,
+        heads,
+    );
+    let t = f.tally;
+    Summary {
+        items: t.items,
+        fetches: t.fetches,
+        evictions: t.evictions,
+        resident: f.resident as u64,
+        permillion: per_million(t.fetches, t.items),
+    }
+}
+
+// The same, in rows that are lent.
+fn replay_in(
+    file: &[u8],
+    k: u64,
+    cache: &mut [u64],
+    resident: usize,
+    events: &mut [u64],
+    log: &mut [u64],
+    next: &mut [u16],
+    stale: &mut [u8],
+    heads: &mut [u16],
+) -> Replayed
+    requires { ⌜ Rows (now log) (now next) (now stale) (now heads) ⌝ }
+    ensures { λ r. ⌜ r ≡ replayAnswer (now (file .entry)) k (now (cache .entry)) resident (length (now (events .entry))) ⌝ }
+    ensures { λ _. ⌜ now (cache .exit) ≡ cacheAfter (now (file .entry)) k (now (cache .entry)) resident (length (now (events .entry))) ⌝ }
+    ensures { λ _. ⌜ now (events .exit) ≡ eventsAfter (now (file .entry)) k (now (cache .entry)) resident (now (events .entry)) ⌝ }
+{
+    match judge(file, k, cache, resident, events.len(), next, heads) {
+        Verdict::Faulty(r) => Replayed::Refused(trace::told(r), resident as u64),
+        Verdict::Sound => Replayed::Done(replay_sound(
+            file,
+            k,
+            cache,
+            resident,
+            events,
+            log,
+            next,
+            stale,
+            heads,
+        )),
+    }
+}
+
 // Replays a trace file through a cache of k pages that starts as the first `resident` places of the buffer, writes three numbers for each fetch, and answers the tally; or refuses, and changes nothing.
 pub fn replay(
     file: &[u8],
@@ -265,19 +382,19 @@ pub fn replay(
     ensures { λ _. ⌜ now (cache .exit) ≡ cacheAfter (now (file .entry)) k (now (cache .entry)) resident (length (now (events .entry))) ⌝ }
     ensures { λ _. ⌜ now (events .exit) ≡ eventsAfter (now (file .entry)) k (now (cache .entry)) resident (now (events .entry)) ⌝ }
 {
-    match judge(file, k, cache, resident, events.len()) {
-        Verdict::Faulty(r) => Replayed::Refused(trace::told(r), resident as u64),
-        Verdict::Sound => {
-            let h = trace::read::header_at(file);
-            let f = run(file, h.items as usize, k as usize, cache, resident, events);
-            let t = f.tally;
-            Replayed::Done(Summary {
-                items: t.items,
-                fetches: t.fetches,
-                evictions: t.evictions,
-                resident: f.resident as u64,
-                permillion: per_million(t.fetches, t.items),
-            })
-        }
-    }
+    let mut log = [0u64; recency::PLACES];
+    let mut next = [0u16; recency::PLACES];
+    let mut stale = [0u8; recency::PLACES];
+    let mut heads = [0u16; recency::BUCKETS];
+    replay_in(
+        file,
+        k,
+        cache,
+        resident,
+        events,
+        &mut log,
+        &mut next,
+        &mut stale,
+        &mut heads,
+    )
 }

@@ -194,8 +194,8 @@ module _ {log next stale heads : List ℕ} {q : Queue} {page e : ℕ} (can : Can
       rw (getD-set-other stale (e - 1) r 1 0 d, l .marked .are r f h) (split (eqb (getD log r 0) page)
       (λ y.
       let o : r < e - 1 = split (ltb r (e - 1))
-          (λ u. ltb-true r (e - 1) u)
-          (λ u. let v = ltb-false r (e - 1) u in absurd (newest-beyond (at log) page (q .now) r (omega (arith, last, can .found)) h (same (getD log r 0) page y))) in
+      (λ u. ltb-true r (e - 1) u)
+      (λ u. let v = ltb-false r (e - 1) u in absurd (newest-beyond (at log) page (q .now) r (omega (arith, last, can .found)) h (same (getD log r 0) page y))) in
       rw (y, or-true) (has-part log (r + 1) (q .now) (getD log r 0) (omega arith) (l .within) (e - 1) (omega arith) (place-of .1) (place-of .0 ∙ sym (same (getD log r 0) page y))))
       (λ y. rw (y, or-false))))
 

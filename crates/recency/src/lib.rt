@@ -44,14 +44,7 @@ pub fn link(log: &[u64], next: &mut [u16], heads: &mut [u16], c: usize)
 }
 
 // The last place of a page from `low` on among the first `end`, counted from 1, or 0.
-pub fn find(
-    log: &[u64],
-    next: &[u16],
-    heads: &[u16],
-    low: usize,
-    end: usize,
-    page: u64,
-) -> usize
+pub fn find(log: &[u64], next: &[u16], heads: &[u16], low: usize, end: usize, page: u64) -> usize
     requires { ⌜ Linked (now log) (now next) (now heads) end ⌝ }
     ensures { λ r. ⌜ r ≡ lastFrom low (now (log .entry)) end page ⌝ }
 {

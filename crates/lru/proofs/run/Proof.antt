@@ -1,40 +1,63 @@
 -- `lru::run` meets its contract. Assumes nothing.
-use Prim.Native.Nat.{_-_}
+use mathlib.Core.Path.{_∙_}
 use borrow.Author.Needs.{needs}
-use Rattle.lru.proofs.Turns.{Running, running-none, running-more, running-all}
+use Rattle.lru.proofs.Rows.{run-load, run-play, run-save, run-done}
 use Rattle.lru.proofs.run.Statement.{statement}
 use Rattle.lru.proofs.run.Tie as tie
 
-ruleset laws = (running-none, running-all, needs)
+load-requires : tie.Need-load-requires
+load-requires c κs =
+    let start = c .before .before .before .before .before .before .before .before .before .before .before .before .before in
+    run-load (start .pre .0) (start .pre .1)
 
-abbrev Inv-loop : tie.InvT-loop
-Inv-loop file n k cache₀ resident events₀ t₀ m₀ i₀ cache events t m i = Running file n k resident cache₀ events₀ cache events t m i
+play-requires : tie.Need-play-requires
+play-requires c κs =
+    let loaded = c .before .before .before .before .before .before .before .before .before .before .before .before .before in
+    let start = loaded .before .before .before .before .before .before .before .before .before .before .before .before .before .before in
+    run-play (start .pre .0) (start .pre .1) (loaded .load .ensures) (loaded .load .kept .1 .0)
 
-abbrev μ-loop : tie.MeasureT-loop
-μ-loop file n k cache₀ resident events₀ t₀ m₀ i₀ cache events t m i = n - i
+save-requires : tie.Need-save-requires
+save-requires c κs =
+    let played = c .before .before .before .before .before .before .before .before .before .before .before .before .before .before .before in
+    let loaded = played .before .before .before .before .before .before .before .before .before .before .before .before .before .before in
+    let start = loaded .before .before .before .before .before .before .before .before .before .before .before .before .before .before in
+    run-save (start .pre .0) (start .pre .1) (loaded .load .ensures) (loaded .load .kept .1 .0) (played .play .ensures)
 
--- A turn takes the item that is read, with what its step did.
-one-more : tie.Need-loop-again Inv-loop μ-loop
-one-more c =
-    let done = c .before .before .before .before .before in
-    let item = done .before .before .before in
-    let turn = item .before in
-    running-more (turn .before .loop .inv) (search) (turn .loop-test .taken) (item .item-at .ensures) (done .step .ensures .0) (done .step .ensures .1)
-    (c .count-one .ensures) (search) (search)
+-- The log and the links are as long as before.
+log-kept : tie.Need-same-length-3
+log-kept c =
+    let played = c .before .before .before .before .before .before .before .before .before .before .before .before .before .before .before .before .before .before in
+    let loaded = played .before .before .before .before .before .before .before .before .before .before .before .before .before .before in
+    played .play .kept .1 .1 .1 .0 ∙ loaded .load .kept .1 .0
+
+next-kept : tie.Need-same-length-4
+next-kept c =
+    let played = c .before .before .before .before .before .before .before .before .before .before .before .before .before .before .before .before .before .before in
+    let loaded = played .before .before .before .before .before .before .before .before .before .before .before .before .before .before in
+    played .play .kept .1 .1 .1 .1 .0 ∙ loaded .load .kept .1 .1 .0
+
+returns : tie.Need-returns
+returns c =
+    let saved = c .before .before in
+    let played = saved .before .before .before .before .before .before .before .before .before .before .before .before .before .before .before .before in
+    let loaded = played .before .before .before .before .before .before .before .before .before .before .before .before .before .before in
+    let start = loaded .before .before .before .before .before .before .before .before .before .before .before .before .before .before in
+    run-done (start .pre .0) (start .pre .1) (loaded .load .ensures) (loaded .load .kept .1 .0) (played .play .ensures) (saved .save .ensures)
 
 pub run-spec : {M : Type 1} → statement M
 run-spec =
     tie.close
     (tie.spec
-    Inv-loop
-    μ-loop
-    (λ c. search laws)
-    (λ c κs. search laws)
-    (λ c κs. search laws)
-    (λ c κs. search laws)
-    (λ c. search laws)
-    (λ c. search laws)
-    one-more
-    (λ c. search laws)
-    (λ c. search laws)
-    (λ c. search laws))
+    (λ c. search needs)
+    (λ c. search needs)
+    (λ c. search needs)
+    load-requires
+    play-requires
+    save-requires
+    (λ c. search needs)
+    (λ c. search needs)
+    log-kept
+    next-kept
+    (λ c. search needs)
+    (λ c. search needs)
+    returns)

@@ -1,0 +1,80 @@
+-- A replay from the lent cache: its pages put in the rows, the items, and the resident pages told. Assumes nothing.
+use Prim.Native.Nat.{ℕ, _-_, _≤_}
+use mathlib.Core.Path.{_≡_, sym, ap, _∙_}
+use mathlib.Core.List.{List}
+use native.Mathlib.Nat.{sub-zero}
+use native.Mathlib.Omega.{arith}
+use lib.ListN.{length, take, length-take}
+use Rattle.pages.specs.Rows.{over}
+use Rattle.recency.specs.Held.{residents, Holds, CanLoad, CanSave}
+use Rattle.recency.specs.declared.Queue.{Queue}
+use Rattle.recency.proofs.Appending.{length-held}
+use Rattle.trace.specs.Layout.{itemsFrom}
+use Rattle.lru.specs.Lru.{replay}
+use Rattle.lru.specs.Tally.{nothing, tally}
+use Rattle.lru.specs.Passes.{CanPlay, Replays, CanRun, Rows, Ran}
+use Rattle.lru.specs.declared.Played.{Played}
+
+module _ {f : List ℕ} {n K m : ℕ} {cache events : List ℕ} (can : CanRun f n K m cache events) {log next stale heads : List ℕ} (rows : Rows log next stale heads) where
+  few : length (take m cache) ≤ K
+  few = rw length-take (omega (arith, can .within))
+
+  -- The pages can be put in.
+  pub run-load : CanLoad (take (m - 0) cache) log next stale heads
+  run-load =
+      rw sub-zero
+      (record {
+        few = omega (arith, few, can .most, rows .log-long);
+        small = rows .small;
+        next-long = rows .next-long;
+        stale-long = rows .stale-long;
+        heads-long = rows .heads-long;
+        once = can .once;
+      })
+
+  module _ {log′ next′ stale′ heads′ : List ℕ} {q : Queue} (h : Holds (take (m - 0) cache) log′ next′ stale′ heads′ q) (same : length log′ ≡ length log) where
+    start : residents log′ q ≡ take m cache
+    start = h .pages-are ∙ rw sub-zero
+
+    -- The items can be taken.
+    pub run-play : CanPlay f n K log′ next′ stale′ heads′ q events
+    run-play = record {
+      file-long = can .file-long;
+      few = can .few;
+      ready = record {
+        held = h .held;
+        some = can .some;
+        small = omega (arith, can .most, rows .log-long);
+        within = omega (arith, length-held (h .held), ap length start, few);
+      };
+      room = can .room;
+    }
+
+    module _ {d : Played} {log″ next″ stale″ heads″ events″ : List ℕ} (u : Replays f n K (residents log′ q) events d log″ next″ stale″ heads″ events″) where
+      -- The resident pages can be told.
+      pub run-save : CanSave log″ stale″ (d .queue) cache
+      run-save = record { logged = u .holds .held .logged; room = omega (arith, u .within, can .places) }
+
+      -- What they leave is the replay from the cache.
+      pub run-done : {cache″ : List ℕ} → cache″ ≡ over (residents log″ (d .queue)) cache
+          → Ran (replay K (take m cache) (itemsFrom f 0 n)) (tally K (take m cache) nothing (itemsFrom f 0 n)) cache events
+          (record { tally = d .tally; resident = d .queue .resident }) cache″ events″
+      run-done e =
+          let w = rw start at u in
+          record {
+            cache-is = e ∙ rw (w .holds .pages-are);
+            events-are = w .events-are;
+            resident-is = sym (length-held (w .holds .held)) ∙ ap length (w .holds .pages-are);
+            tally-is = w .tally-is;
+          }
+
+-- Rows that are as long as before have room as before.
+pub rows-kept : {log next stale heads : List ℕ} → Rows log next stale heads → (next′ heads′ : List ℕ) → length next′ ≡ length next → length heads′ ≡ length heads
+    → Rows log next′ stale heads′
+rows-kept r next′ heads′ a b = record {
+  log-long = r .log-long;
+  small = r .small;
+  next-long = omega (arith, r .next-long);
+  stale-long = r .stale-long;
+  heads-long = omega (arith, r .heads-long);
+}
