@@ -11,7 +11,7 @@ demo:
 
 # The proved library against the reference, as ratios. Not part of the tests.
 bench:
-	@rt staticlib abi >/dev/null
+	@rust/archive >/dev/null
 	@cargo run --quiet --release --offline --manifest-path rust/Cargo.toml -p bench
 
 fmt:

@@ -4,7 +4,7 @@ use std::env;
 use std::path::{Path, PathBuf};
 
 const OVERRIDE: &str = "SHKEMBRUQ_ARCHIVE";
-const IN_REPOSITORY: &str = "../../target/staticlib/libabi.a";
+const IN_REPOSITORY: &str = "../../target/staticlib";
 
 fn main() {
     println!("cargo::rerun-if-env-changed={OVERRIDE}");
@@ -15,7 +15,7 @@ fn main() {
     match archive.canonicalize() {
         Ok(found) if found.is_file() => link(&found),
         _ => println!(
-            "cargo::error=no archive at {}: run `rt staticlib abi` first, or set {OVERRIDE} to its path",
+            "cargo::error=no archive at {}: run `rust/archive` first, or set {OVERRIDE} to its path",
             archive.display()
         ),
     }
@@ -26,8 +26,18 @@ fn archive() -> PathBuf {
         Some(path) => PathBuf::from(path),
         None => {
             let package = env::var_os("CARGO_MANIFEST_DIR").expect("cargo sets the package folder");
-            Path::new(&package).join(IN_REPOSITORY)
+            Path::new(&package).join(IN_REPOSITORY).join(name())
         }
+    }
+}
+
+/// The kit's own archive is for x86-64. For another machine `rust/archive` has
+/// one made beside it.
+fn name() -> String {
+    let machine = env::var("CARGO_CFG_TARGET_ARCH").expect("cargo sets the target's machine");
+    match machine.as_str() {
+        "x86_64" => "libabi.a".to_string(),
+        other => format!("libabi-{other}.a"),
     }
 }
 
