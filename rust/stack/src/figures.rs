@@ -3,6 +3,7 @@
 
 use crate::inputs::{self, faulty, reduced};
 use crate::library::{Measured, check, join, reduce, replay};
+#[cfg(target_arch = "x86_64")]
 use crate::programs;
 use types::layout::whole;
 use types::limits::{LARGEST_CACHE, LARGEST_FILTER};
@@ -119,6 +120,7 @@ pub fn of_replay() -> Result<Vec<Figure>, String> {
 }
 
 /// A program that is refused by its settings writes one line.
+#[cfg(target_arch = "x86_64")]
 pub fn of_programs() -> Result<Vec<Figure>, String> {
     let [filter, cache] = [LARGEST_FILTER, LARGEST_CACHE].map(u64::to_le_bytes);
     let reduce = |mode: u64| [17, 3, 0, mode as u8, filter[0], filter[1]];

@@ -2,13 +2,13 @@
 //!
 //! The painted words lie on this thread's own stack, far below all frames of
 //! this code. For the call the stack pointer is set to their upper end. So
-//! what has changed in them afterwards is the called function's alone: first
-//! its return address, which the call itself writes, then what it and the
-//! functions that it calls have written. Nothing has to be taken off. The end
-//! of a frame is seen only if something is written there or below it, as it is
-//! with every call out of the frame; a signal in between would be seen as well.
+//! what has changed in them afterwards is the called function's alone: what it
+//! and the functions that it calls have written, and on x86-64 first of all its
+//! return address, which the call itself writes. Nothing has to be taken off.
+//! The end of a frame is seen only if something is written there or below it:
+//! on x86-64 every call out of the frame does so, on aarch64 one of a function
+//! that saves registers. A signal in between would be seen as well.
 
-use std::arch::asm;
 use std::ptr;
 
 /// No address, no small number, no text.
@@ -27,12 +27,10 @@ pub const PAINTED: usize = 1 << 20;
 /// A C function's arguments, whole numbers or addresses, and zeros after them.
 pub type Arguments = [u64; 9];
 
-/// So many of them are handed over in registers, the others on the stack.
-const IN_REGISTERS: usize = 6;
-
 pub struct Called {
     pub answer: u64,
-    /// Bytes below the caller's frame, the return address included.
+    /// Bytes below the caller's frame, with the return address if the call
+    /// itself has written it there.
     pub depth: usize,
 }
 
@@ -88,35 +86,88 @@ unsafe fn depth(top: usize) -> usize {
 ///
 /// As for `call`, and the words around the top must be free.
 unsafe fn call_at(top: usize, function: usize, arguments: &Arguments) -> u64 {
-    let (registers, others) = arguments.split_at(IN_REGISTERS);
+    let (registers, others) = arguments.split_first_chunk().expect("more than registers");
     for (number, other) in others.iter().enumerate() {
         // SAFETY: these words are free, in the gap.
         unsafe { word(top + WORD * number).write_volatile(*other) };
     }
-    let answer;
-    // SAFETY: the caller answers for the call. The stack pointer is kept in a
-    // register that a C function leaves as it was; all that one may change is
-    // named as changed.
-    unsafe {
-        asm!(
-            "mov r12, rsp",
-            "mov rsp, {top}",
-            "call {function}",
-            "mov rsp, r12",
-            top = in(reg) top,
-            function = in(reg) function,
-            in("rdi") registers[0],
-            in("rsi") registers[1],
-            in("rdx") registers[2],
-            in("rcx") registers[3],
-            in("r8") registers[4],
-            in("r9") registers[5],
-            lateout("rax") answer,
-            out("r12") _,
-            clobber_abi("C"),
-        );
+    // SAFETY: the caller answers for the call.
+    unsafe { machine::call_at(top, function, registers) }
+}
+
+/// In both machines' assembly the stack pointer is kept in a register that a C
+/// function leaves as it was, and all that one may change is named as changed.
+#[cfg(target_arch = "x86_64")]
+mod machine {
+    use std::arch::asm;
+
+    /// So many arguments are handed over in registers, the others on the stack.
+    const IN_REGISTERS: usize = 6;
+
+    /// # Safety
+    ///
+    /// As for the function of this name above, which has put the others there.
+    pub unsafe fn call_at(top: usize, function: usize, registers: &[u64; IN_REGISTERS]) -> u64 {
+        let answer;
+        // SAFETY: the caller answers for the call.
+        unsafe {
+            asm!(
+                "mov r12, rsp",
+                "mov rsp, {top}",
+                "call {function}",
+                "mov rsp, r12",
+                top = in(reg) top,
+                function = in(reg) function,
+                in("rdi") registers[0],
+                in("rsi") registers[1],
+                in("rdx") registers[2],
+                in("rcx") registers[3],
+                in("r8") registers[4],
+                in("r9") registers[5],
+                lateout("rax") answer,
+                out("r12") _,
+                clobber_abi("C"),
+            );
+        }
+        answer
     }
-    answer
+}
+
+#[cfg(target_arch = "aarch64")]
+mod machine {
+    use std::arch::asm;
+
+    /// So many arguments are handed over in registers, the others on the stack.
+    const IN_REGISTERS: usize = 8;
+
+    /// # Safety
+    ///
+    /// As for the function of this name above, which has put the others there.
+    pub unsafe fn call_at(top: usize, function: usize, registers: &[u64; IN_REGISTERS]) -> u64 {
+        let answer;
+        // SAFETY: the caller answers for the call.
+        unsafe {
+            asm!(
+                "mov x20, sp",
+                "mov sp, {top}",
+                "blr {function}",
+                "mov sp, x20",
+                top = in(reg) top,
+                function = in(reg) function,
+                inlateout("x0") registers[0] => answer,
+                in("x1") registers[1],
+                in("x2") registers[2],
+                in("x3") registers[3],
+                in("x4") registers[4],
+                in("x5") registers[5],
+                in("x6") registers[6],
+                in("x7") registers[7],
+                out("x20") _,
+                clobber_abi("C"),
+            );
+        }
+        answer
+    }
 }
 
 fn word(address: usize) -> *mut u64 {

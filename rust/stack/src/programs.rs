@@ -1,5 +1,6 @@
-//! The two programs, run with a library that has their `main` called on
-//! painted stack.
+//! The two programs, run as they are and, on x86-64, with a library that has
+//! their `main` called on painted stack. They are for x86-64: on another machine
+//! an emulator runs them, and such a library is not compiled.
 
 use std::env;
 use std::io::Write;
@@ -9,10 +10,15 @@ use std::process::{Command, Output, Stdio};
 const OVERRIDE: &str = "SHKEMBRUQ_PROGRAMS";
 const IN_REPOSITORY: &str = concat!(env!("CARGO_MANIFEST_DIR"), "/../../target/bin");
 
+/// Runs a program, on another machine too.
+const RUN: &str = concat!(env!("CARGO_MANIFEST_DIR"), "/../../examples/run");
+
 /// What the library says on standard error.
+#[cfg(target_arch = "x86_64")]
 const SAID: &str = "stack ";
 
 /// What a program took and wrote.
+#[cfg(target_arch = "x86_64")]
 pub struct Run {
     /// Bytes of stack below the frame that calls `main`.
     pub depth: usize,
@@ -20,6 +26,7 @@ pub struct Run {
 }
 
 /// Runs a program with this on its standard input, and measures it.
+#[cfg(target_arch = "x86_64")]
 pub fn measured(name: &str, input: &[u8]) -> Result<Run, String> {
     let mut command = Command::new(program(name)?);
     command.env("LD_PRELOAD", env!("PRELOADED"));
@@ -39,9 +46,17 @@ pub fn measured(name: &str, input: &[u8]) -> Result<Run, String> {
 
 /// What a program writes when nothing is measured.
 pub fn written(name: &str, input: &[u8]) -> Result<Vec<u8>, String> {
-    let output = run(Command::new(program(name)?), input);
-    let output = output.map_err(|error| format!("{name}: {error}"))?;
-    Ok(output.stdout)
+    let mut command = Command::new(RUN);
+    command.arg(program(name)?);
+    let output = run(command, input).map_err(|error| format!("{name}: {error}"))?;
+    match output.status.success() {
+        true => Ok(output.stdout),
+        false => Err(format!(
+            "{name}: {}: {}",
+            output.status,
+            String::from_utf8_lossy(&output.stderr)
+        )),
+    }
 }
 
 fn program(name: &str) -> Result<PathBuf, String> {

@@ -2,12 +2,8 @@
 //! all else.
 
 use compare::report::say;
-use stack::figures::{
-    Figure, of_check, of_join, of_programs, of_reduce, of_reduce_with, of_replay,
-};
-use stack::inputs::for_programs;
+use stack::figures::{Figure, of_check, of_join, of_reduce, of_reduce_with, of_replay};
 use stack::painted::PAINTED;
-use stack::programs::{measured, written};
 
 /// What `shkembruq_reduce` may take in all, in either mode.
 const REDUCE: usize = 9 << 10;
@@ -56,24 +52,5 @@ fn reduce_takes_the_same_with_every_filter() {
 fn the_other_functions_are_measured() {
     for figures in [of_check, of_join] {
         told(figures());
-    }
-}
-
-#[test]
-fn the_programs_are_measured() {
-    told(of_programs());
-}
-
-/// A program that is measured writes what it writes when it is not.
-#[test]
-fn a_measured_program_does_its_work() {
-    for (program, settings) in [
-        ("reduce", &[17, 3, 0, 2, 0, 4][..]),
-        ("replay", &[16, 2, 0, 0, 16]),
-    ] {
-        let input = [settings, &for_programs()].concat();
-        let run = measured(program, &input).unwrap_or_else(|error| panic!("{error}"));
-        assert!(run.output.len() > 1000);
-        assert_eq!(Ok(run.output), written(program, &input), "{program}");
     }
 }

@@ -7,7 +7,8 @@ use std::hint::black_box;
 /// What a frame has besides its array: saved registers, the way to 16.
 const BESIDES: usize = 128;
 
-const RETURN_ADDRESS: usize = 8;
+/// On aarch64 a call leaves it in a register.
+const RETURN_ADDRESS: usize = if cfg!(target_arch = "x86_64") { 8 } else { 0 };
 
 extern "C" fn nothing() {}
 
