@@ -3,6 +3,7 @@
 
 use crate::job::Job;
 use crate::traces::Trace;
+use std::env::consts::ARCH;
 use std::io::Write;
 use std::time::Duration;
 
@@ -34,11 +35,11 @@ impl Unit {
     }
 }
 
-/// The names of the columns, after an empty line.
+/// The names of the columns, with the machine's, after an empty line.
 pub fn head(unit: Unit, counterparts: &[&str]) {
     let unit = unit.name();
-    let proved = format!("proved {unit}");
-    print!("\n{:<20} {:<24} {proved:>14}", "trace", "call");
+    let (trace, proved) = (format!("trace, on {ARCH}"), format!("proved {unit}"));
+    print!("\n{trace:<20} {:<24} {proved:>14}", "call");
     for (number, name) in counterparts.iter().enumerate() {
         let ratio = match number {
             0 => "ratio".to_string(),
