@@ -12,7 +12,7 @@ use Rattle.recency.proofs.Appending.{length-held}
 use Rattle.trace.specs.Layout.{itemsFrom}
 use Rattle.lru.specs.Lru.{replay}
 use Rattle.lru.specs.Tally.{nothing, tally}
-use Rattle.lru.specs.Passes.{CanPlay, Replays, CanRun, Rows, Ran}
+use Rattle.lru.specs.Passes.{CanPlay, Plays, CanRun, Rows, Ran}
 use Rattle.lru.specs.declared.Played.{Played}
 
 module _ {f : List ℕ} {n K m : ℕ} {cache events : List ℕ} (can : CanRun f n K m cache events) {log next stale heads : List ℕ} (rows : Rows log next stale heads) where
@@ -50,7 +50,7 @@ module _ {f : List ℕ} {n K m : ℕ} {cache events : List ℕ} (can : CanRun f 
       room = can .room;
     }
 
-    module _ {d : Played} {log″ next″ stale″ heads″ events″ : List ℕ} (u : Replays f n K (residents log′ q) events d log″ next″ stale″ heads″ events″) where
+    module _ {d : Played} {log″ next″ stale″ heads″ events″ : List ℕ} (u : Plays f n K (residents log′ q) events d log″ next″ stale″ heads″ events″) where
       -- The resident pages can be told.
       pub run-save : CanSave log″ stale″ (d .queue) cache
       run-save = record { logged = u .holds .held .logged; room = omega (arith, u .within, can .places) }

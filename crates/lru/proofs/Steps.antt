@@ -7,19 +7,21 @@ use mathlib.Core.Option.{none}
 use native.Mathlib.Omega.{arith}
 use lib.ListN.{length}
 use lib.Seq.{sets}
-use borrow.Author.Tests.{le-ltb, lt-ltb}
+use lib.Dec.{leb, ltb}
+use borrow.Author.Tests.{le-ltb, lt-ltb, ltb-true, ltb-false, leb-true, leb-false}
 use Rattle.pages.specs.Pages.{has, remove}
-use Rattle.pages.proofs.Pages.{length-move, has-init, length-init}
+use Rattle.pages.proofs.Choice.{split}
+use Rattle.pages.proofs.Pages.{length-move, has-init, length-init, remove-absent}
 use Rattle.recency.specs.Linked.{lastFrom}
-use Rattle.recency.specs.Held.{residents, Holds, CanRenew, CanEnter, CanEvict, Gone}
+use Rattle.recency.specs.Held.{residents, Holds, CanUse, CanEvict, Gone}
 use Rattle.recency.specs.declared.Queue.{Queue}
 use Rattle.recency.specs.declared.Evicted.{Evicted}
-use Rattle.recency.proofs.Appending.{has-held, length-held, gone-held}
+use Rattle.recency.proofs.Appending.{has-held, length-held, gone-held, last-later}
 use Rattle.trace.specs.Rules.{reserved}
 use Rattle.trace.specs.declared.Item.{Item}
 use Rattle.lru.specs.Lru.{step, hit, fetch, fetched, words, word}
 use Rattle.lru.specs.Tally.{isFetch, isEviction}
-use Rattle.lru.specs.Passes.{CanStep, Stepped}
+use Rattle.lru.specs.Passes.{CanMake, Made, CanStep, Stepped}
 
 -- ---- the three cases
 
@@ -46,76 +48,100 @@ init-count : (s : List ℕ) → 1 ≤ length s → length (dropLast s) + 1 ≡ l
 init-count [] h = absurd (omega arith)
 init-count (p ∷ s) h = rw (length-init p s) (omega arith)
 
+-- ---- room made
+
+module _ {K : ℕ} {log stale : List ℕ} {q : Queue} (can : CanMake K log stale q) {e : ℕ} where
+  pub made-found : q .low < e → Made K e log stale q (record { queue = q; page = reserved })
+  made-found h = record { found = λ _. refl; room = λ m r. absurd (omega arith); full = λ m r. absurd (omega arith) }
+
+  module _ (m : e ≤ q .low) where
+    pub made-room : q .resident < K → Made K e log stale q (record { queue = q; page = reserved })
+    made-room h = record { found = λ f. absurd (omega arith); room = λ m r. (refl, refl); full = λ m r. absurd (omega arith) }
+
+    module _ (h : K ≤ q .resident) where
+      pub make-evict : CanEvict log stale q
+      make-evict = record { logged = can .logged; some = omega (arith, can .some) }
+
+      pub made-full : {r : Evicted} → Gone log stale q r → Made K e log stale q r
+      made-full g = record { found = λ f. absurd (omega arith); room = λ m r. absurd (omega arith); full = λ m r. g }
+
 -- ---- each case in the rows, from what the code knows there
 
-module _ {K f : ℕ} {log next stale heads : List ℕ} {q : Queue} {events : List ℕ} (can : CanStep K f log next stale heads q events) where
+module _ {K f : ℕ} {log next stale heads : List ℕ} {q : Queue} {events : List ℕ} (can : CanStep K f log next stale heads q events)
+    (x : Item) {e : ℕ} (k : e ≡ lastFrom (q .low) log (q .now) (x .page)) {g : Evicted} (made : Made K e log stale q g) where
   count : length (residents log q) ≡ q .resident
   count = length-held (can .ready .held)
 
-  module _ (x : Item) {e : ℕ} (k : e ≡ lastFrom (q .low) log (q .now) (x .page)) where
-    -- A page that is found is used again.
-    module _ (h : q .low < e) where
-      pub step-renew : CanRenew log next stale heads q (x .page) e
-      step-renew = record { held = can .ready .held; last = k; found = h }
+  as-was : {p : Queue} → p ≡ q → CanUse log next stale heads p (x .page) e
+  as-was z = rw z (record { held = can .ready .held; last = k; few = omega (arith, can .ready .small, can .ready .within) })
 
-      pub stepped-hit : {log′ next′ stale′ heads′ : List ℕ} {v : Queue} → Holds (x .page ∷ remove (x .page) (residents log q)) log′ next′ stale′ heads′ v
-          → Stepped (step K (residents log q) x) K f events (record { queue = v; fetched = false; evicted = false }) log′ next′ stale′ heads′ events
-      unfolding words isFetch isEviction
-      stepped-hit u =
-          let t : has (x .page) (residents log q) ≡ true = has-held (can .ready .held) (x .page) k ∙ lt-ltb (q .low) e h in
-          rw (step-hit K x (residents log q) t)
+  away : e ≤ q .low → has (x .page) (residents log q) ≡ false
+  away m = has-held (can .ready .held) (x .page) k ∙ le-ltb (q .low) e m
+
+  left : Gone log stale q g → K ≤ q .resident → length (residents log (g .queue)) + 1 ≡ q .resident
+  left gone h = rw (gone .pages-are) (init-count (residents log q) (omega (arith, count, can .ready .some)) ∙ count)
+
+  -- The page can be used where room was made.
+  pub step-use : CanUse log next stale heads (g .queue) (x .page) e
+  step-use =
+      split (ltb (q .low) e)
+      (λ t. as-was (made .found (ltb-true (q .low) e t)))
+      (λ t.
+      let m = ltb-false (q .low) e t in
+      split (ltb (q .resident) K)
+      (λ r. as-was (made .room m (ltb-true (q .resident) K r) .0))
+      (λ r.
+      let h = ltb-false (q .resident) K r in
+      let gone = made .full m h in
+      record {
+        held = gone-held (can .ready .held) gone;
+        last = rw (gone .now-is) (last-later (q .low) (g .queue .low) log (q .now) (x .page) k m (gone .from));
+        few = omega (arith, gone .logged .count, left gone h, can .ready .within, can .ready .small);
+      }))
+
+  module _ {log′ next′ stale′ heads′ : List ℕ} {v : Queue} (u : Holds (x .page ∷ remove (x .page) (residents log (g .queue))) log′ next′ stale′ heads′ v) where
+    -- It was found.
+    pub stepped-hit : q .low < e → Stepped (step K (residents log q) x) K f events (record { queue = v; fetched = false; evicted = false }) log′ next′ stale′ heads′ events
+    unfolding words isFetch isEviction
+    stepped-hit h =
+        let t : has (x .page) (residents log q) ≡ true = has-held (can .ready .held) (x .page) k ∙ lt-ltb (q .low) e h in
+        let w = rw (made .found h) at u in
+        rw (step-hit K x (residents log q) t)
+        (record {
+          holds = w;
+          within = omega (arith, holds-count w, length-move (x .page) (residents log q) t, count, can .ready .within);
+          events-are = refl;
+          fetched-is = refl;
+          evicted-is = refl;
+        })
+
+    -- It came in.
+    module _ (m : e ≤ q .low) {events′ : List ℕ} (t : events′ ≡ sets events (3 * f) (x .time ∷ x .page ∷ g .page ∷ [])) where
+      came-room : q .resident < K → Stepped (step K (residents log q) x) K f events (record { queue = v; fetched = true; evicted = false }) log′ next′ stale′ heads′ events′
+      unfolding words word isFetch isEviction
+      came-room h =
+          let r = made .room m h in
+          let w = rw (r .0, remove-absent (x .page) (residents log q) (away m)) at u in
+          rw (step-room K x (residents log q) (away m) (omega (arith, count)))
+          (record { holds = w; within = omega (arith, holds-count w, count); events-are = rw (r .1) at t; fetched-is = refl; evicted-is = refl })
+
+      came-full : K ≤ q .resident → Stepped (step K (residents log q) x) K f events (record { queue = v; fetched = true; evicted = true }) log′ next′ stale′ heads′ events′
+      unfolding words word isFetch isEviction
+      came-full h =
+          let gone = made .full m h in
+          let n = has-init (x .page) (residents log q) (away m) in
+          let w = rw (gone .pages-are, remove-absent (x .page) (dropLast (residents log q)) n) at u in
+          rw (step-full K x (residents log q) (away m) (omega (arith, count)), gone .last-is)
           (record {
-            holds = u;
-            within = omega (arith, holds-count u, length-move (x .page) (residents log q) t, count, can .ready .within);
-            events-are = refl;
+            holds = w;
+            within = omega (arith, holds-count w, rw (gone .pages-are) at (left gone h), can .ready .within);
+            events-are = t;
             fetched-is = refl;
             evicted-is = refl;
           })
 
-    module _ (miss : e ≤ q .low) where
-      away : has (x .page) (residents log q) ≡ false
-      away = has-held (can .ready .held) (x .page) k ∙ le-ltb (q .low) e miss
-
-      -- A page that is not found comes in where there is room.
-      module _ (h : q .resident < K) where
-        pub step-enter : CanEnter log next stale heads q (x .page)
-        step-enter = record { held = can .ready .held; new = away; few = omega (arith, can .ready .small) }
-
-        pub stepped-room : {log′ next′ stale′ heads′ events′ : List ℕ} {v : Queue} → Holds (x .page ∷ residents log q) log′ next′ stale′ heads′ v
-            → events′ ≡ sets events (3 * f) (x .time ∷ x .page ∷ reserved ∷ [])
-            → Stepped (step K (residents log q) x) K f events (record { queue = v; fetched = true; evicted = false }) log′ next′ stale′ heads′ events′
-        unfolding words word isFetch isEviction
-        stepped-room u t =
-            rw (step-room K x (residents log q) away (omega (arith, count)))
-            (record { holds = u; within = omega (arith, holds-count u, count); events-are = t; fetched-is = refl; evicted-is = refl })
-
-      -- Where there is none the last goes,
-      module _ (h : K ≤ q .resident) where
-        pub step-evict : CanEvict log stale q
-        step-evict = record { logged = can .ready .held .logged; some = omega (arith, can .ready .some) }
-
-        module _ {r : Evicted} (g : Gone log stale q r) where
-          left : length (residents log (r .queue)) + 1 ≡ q .resident
-          left = rw (g .pages-are) (init-count (residents log q) (omega (arith, count, can .ready .some)) ∙ count)
-
-          -- and the page comes in.
-          pub step-replace : CanEnter log next stale heads (r .queue) (x .page)
-          step-replace = record {
-            held = gone-held (can .ready .held) g;
-            new = rw (g .pages-are) (has-init (x .page) (residents log q) away);
-            few = omega (arith, g .logged .count, left, can .ready .within, can .ready .small);
-          }
-
-          pub stepped-full : {log′ next′ stale′ heads′ events′ : List ℕ} {v : Queue} → Holds (x .page ∷ residents log (r .queue)) log′ next′ stale′ heads′ v
-              → events′ ≡ sets events (3 * f) (x .time ∷ x .page ∷ r .page ∷ [])
-              → Stepped (step K (residents log q) x) K f events (record { queue = v; fetched = true; evicted = true }) log′ next′ stale′ heads′ events′
-          unfolding words word isFetch isEviction
-          stepped-full u t =
-              rw (step-full K x (residents log q) away (omega (arith, count)), g .last-is)
-              (record {
-                holds = rw (g .pages-are) at u;
-                within = omega (arith, holds-count u, left, can .ready .within);
-                events-are = t;
-                fetched-is = refl;
-                evicted-is = refl;
-              })
+      pub stepped-fetch : Stepped (step K (residents log q) x) K f events (record { queue = v; fetched = true; evicted = leb K (q .resident) }) log′ next′ stale′ heads′ events′
+      stepped-fetch =
+          split (leb K (q .resident))
+          (λ y. rw y (came-full (leb-true K (q .resident) y)))
+          (λ y. rw y (came-room (leb-false K (q .resident) y)))

@@ -13,7 +13,7 @@ use Rattle.trace.specs.declared.Item.{Item}
 use Rattle.trace.proofs.Items.{first-more}
 use Rattle.lru.specs.Lru.{Outcome, step, _then_, replay, words}
 use Rattle.lru.specs.Tally.{nothing, countedOf, HasRoom, isFetch, tallied, tally}
-use Rattle.lru.specs.Passes.{CanStep, Stepped, CanPlay, Turned, Replays}
+use Rattle.lru.specs.Passes.{CanStep, Stepped, CanPlay, Turned, Plays}
 use Rattle.lru.specs.declared.Tally.{Tally}
 use Rattle.lru.specs.declared.Effect.{Effect}
 use Rattle.lru.specs.declared.Played.{Played}
@@ -48,7 +48,7 @@ turned-then {o} {p} {r = r} {events = events} d s f l =
 -- A replay of n items of the file f, from the cache that the rows held, has done i: the tally is t.
 pub record Running (f : List ℕ) (n K : ℕ) (log₀ next₀ stale₀ heads₀ : List ℕ) (q₀ : Queue) (events₀ log next stale heads events : List ℕ) (t : Tally) (q : Queue) (i : ℕ) : Type 0 where
   pub within : i ≤ n
-  pub done : Replays f i K (residents log₀ q₀) events₀ (record { tally = t; queue = q }) log next stale heads events
+  pub done : Plays f i K (residents log₀ q₀) events₀ (record { tally = t; queue = q }) log next stale heads events
   pub items-are : t .items ≡ i
   pub fetched : t .fetches ≤ i
   pub evicted : t .evictions ≤ i
@@ -128,5 +128,5 @@ module _ {f : List ℕ} {n K : ℕ} {log₀ next₀ stale₀ heads₀ : List ℕ
       }
 
   -- All items are done.
-  pub running-all : n ≤ i → Replays f n K (residents log₀ q₀) events₀ (record { tally = t; queue = q }) log next stale heads events
+  pub running-all : n ≤ i → Plays f n K (residents log₀ q₀) events₀ (record { tally = t; queue = q }) log next stale heads events
   running-all h = let e : i ≡ n = omega (arith, r .within) in rw e at (r .done)

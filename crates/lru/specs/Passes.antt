@@ -8,8 +8,10 @@ use Rattle.limits.proofs.Numbers.{itemsMost, cacheMost}
 use Rattle.pages.specs.Rows.{over}
 use Rattle.pages.specs.Pages.{Distinct}
 use Rattle.recency.specs.Linked.{buckets}
-use Rattle.recency.specs.Held.{Held, Holds}
+use Rattle.recency.specs.Held.{Logged, Held, Holds, Gone}
 use Rattle.recency.specs.declared.Queue.{Queue}
+use Rattle.recency.specs.declared.Evicted.{Evicted}
+use Rattle.trace.specs.Rules.{reserved}
 use Rattle.trace.specs.Layout.{itemsFrom}
 use Rattle.lru.specs.Lru.{Outcome, words, replay}
 use Rattle.lru.specs.Tally.{nothing, isFetch, isEviction, tally}
@@ -20,11 +22,22 @@ use Rattle.lru.specs.declared.Finish.{Finish}
 
 -- ---- one item
 
--- The rows hold a cache of at most K pages, and have room for K.
+-- Room can be made in a cache of at least one page.
+pub record CanMake (K : ℕ) (log stale : List ℕ) (q : Queue) : Type 0 where
+  pub logged : Logged log stale q
+  pub some : 1 ≤ K
+
+-- Room was made: nothing goes where the page is found, or where fewer than K are resident; otherwise the last one goes.
+pub record Made (K e : ℕ) (log stale : List ℕ) (q : Queue) (r : Evicted) : Type 0 where
+  pub found : q .low < e → r .queue ≡ q
+  pub room : e ≤ q .low → q .resident < K → (r .queue ≡ q) × (r .page ≡ reserved)
+  pub full : e ≤ q .low → K ≤ q .resident → Gone log stale q r
+
+-- The rows hold a cache of at most K pages, and have room for one more.
 pub record Ready (K : ℕ) (log next stale heads : List ℕ) (q : Queue) : Type 0 where
   pub held : Held log next stale heads q
   pub some : 1 ≤ K
-  pub small : K < length log
+  pub small : K + 1 < length log
   pub within : q .resident ≤ K
 
 -- An item can be taken: there is room for one event more.
@@ -57,8 +70,8 @@ pub record Turned (o : Outcome) (c : Tally) (K : ℕ) (events : List ℕ) (r : P
   pub tally-is : r .tally ≡ c
 
 -- The replay of the first n items of a file, from a list of pages, does.
-abbrev pub Replays : List ℕ → ℕ → ℕ → List ℕ → List ℕ → Played → List ℕ → List ℕ → List ℕ → List ℕ → List ℕ → Type 0
-Replays file n K s events =
+abbrev pub Plays : List ℕ → ℕ → ℕ → List ℕ → List ℕ → Played → List ℕ → List ℕ → List ℕ → List ℕ → List ℕ → Type 0
+Plays file n K s events =
     let u = itemsFrom file 0 n in
     Turned (replay K s u) (tally K s nothing u) K events
 
@@ -75,7 +88,7 @@ pub record CanRun (file : List ℕ) (n K resident : ℕ) (cache events : List �
 
 -- The rows have room for the largest cache.
 pub record Rows (log next stale heads : List ℕ) : Type 0 where
-  pub log-long : cacheMost < length log
+  pub log-long : cacheMost + 1 < length log
   pub small : length log ≤ 65535
   pub next-long : length log ≤ length next
   pub stale-long : length log ≤ length stale

@@ -1,6 +1,7 @@
 // A replay of a trace through a cache that evicts the least recently used page.
 use limits::Cache;
 use limits::CacheMade;
+use recency::Evicted;
 use recency::Queue;
 use trace::Item;
 use trace::Reason;
@@ -19,7 +20,7 @@ ghost use Rattle.trace.specs.declared.Verdict.the-variants.{Sound};
 ghost use Rattle.lru.specs.Lru.{step as stepped, replay as lru, words};
 ghost use Rattle.lru.specs.Tally.{oneOf, nothing, countedOf, HasRoom, tally as tallyOf, perMillion};
 ghost use Rattle.lru.specs.Replay.{twice, badStart, replayVerdict, replayOf, summaryOf, replayAnswer, cacheAfter, eventsAfter};
-ghost use Rattle.lru.specs.Passes.{CanStep, Stepped, CanPlay, Replays, CanRun, Rows, Ran, CanSift, CanStart};
+ghost use Rattle.lru.specs.Passes.{CanMake, Made, CanStep, Stepped, CanPlay, Plays, CanRun, Rows, Ran, CanSift, CanStart};
 
 // How many items there were, and how many of them were fetches and evictions.
 pub struct Tally {
@@ -112,6 +113,26 @@ fn put(events: &mut [u64], at: usize, a: u64, b: u64, c: u64)
     events[at + 2] = c;
 }
 
+// Room for a page whose last place is e counted from 1: a page that comes in where there is none makes the last one go, which is told.
+fn make_room(log: &[u64], stale: &[u8], q: Queue, k: usize, e: usize) -> Evicted
+    requires { ⌜ CanMake k (now log) (now stale) q ⌝ }
+    ensures { λ r. ⌜ Made k e (now (log .entry)) (now (stale .entry)) q r ⌝ }
+{
+    if q.low < e {
+        return Evicted {
+            queue: q,
+            page: Item::RESERVED,
+        };
+    }
+    if q.resident < k {
+        return Evicted {
+            queue: q,
+            page: Item::RESERVED,
+        };
+    }
+    recency::evict(log, stale, q)
+}
+
 // One item.
 fn step(
     x: Item,
@@ -129,30 +150,21 @@ fn step(
 {
     let at = 3 * f;
     let e = recency::find(log, next, heads, q.low, q.now, x.page);
+    let g = make_room(log, stale, q, k, e);
+    let room = g.queue;
+    let v = recency::used(log, next, stale, heads, room, x.page, e);
     if q.low < e {
-        let v = recency::renew(log, next, stale, heads, q, x.page, e);
         return Effect {
             queue: v,
             fetched: false,
             evicted: false,
         };
     }
-    if q.resident < k {
-        let v = recency::enter(log, next, stale, heads, q, x.page);
-        put(events, at, x.time, x.page, Item::RESERVED);
-        return Effect {
-            queue: v,
-            fetched: true,
-            evicted: false,
-        };
-    }
-    let g = recency::evict(log, stale, q);
-    let v = recency::enter(log, next, stale, heads, g.queue, x.page);
     put(events, at, x.time, x.page, g.page);
     Effect {
         queue: v,
         fetched: true,
-        evicted: true,
+        evicted: k <= q.resident,
     }
 }
 
@@ -169,7 +181,7 @@ fn play(
     events: &mut [u64],
 ) -> Played
     requires { ⌜ CanPlay (now file) n k (now log) (now next) (now stale) (now heads) start (now events) ⌝ }
-    ensures { λ r. ⌜ Replays (now (file .entry)) n k (residents (now (log .entry)) start) (now (events .entry)) r (now (log .exit)) (now (next .exit)) (now (stale .exit)) (now (heads .exit)) (now (events .exit)) ⌝ }
+    ensures { λ r. ⌜ Plays (now (file .entry)) n k (residents (now (log .entry)) start) (now (events .entry)) r (now (log .exit)) (now (next .exit)) (now (stale .exit)) (now (heads .exit)) (now (events .exit)) ⌝ }
 {
     let mut t = Tally {
         items: 0,

@@ -61,6 +61,7 @@ module _ {log stale : List ℕ} {q : Queue} (can : CanEvict log stale q) where
               marked = record { are = λ j f g. can .logged .marked .are j (omega (arith, a .from)) g };
               count = omega arith;
             };
+            from = omega (arith, a .from);
             now-is = refl;
             pages-are = sym (ap dropLast z ∙ init-append (order behind) (getD log r 0) [] ∙ append-nil (order behind));
             last-is = ap getLast? z ∙ last-append (order behind) (getD log r 0) [];

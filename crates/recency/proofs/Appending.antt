@@ -18,10 +18,10 @@ use Rattle.chains.specs.Chains.{at, newest}
 use Rattle.chains.proofs.Newest.{newest-at, newest-beyond, newest-most}
 use Rattle.recency.specs.Order.{order}
 use Rattle.recency.specs.Linked.{Linked, CanLink, lastFrom}
-use Rattle.recency.specs.Held.{part, residents, Marked, Logged, Held, Holds, CanPack, CanShorten, Shortened, CanAppend, CanRenew, CanEnter, CanEvict, Gone}
+use Rattle.recency.specs.Held.{part, residents, Marked, Logged, Held, Holds, CanPack, CanShorten, Shortened, CanAppend, CanMark, countWith, staleWith, CanUse, Gone}
 use Rattle.recency.specs.declared.Queue.{Queue}
 use Rattle.recency.specs.declared.Evicted.{Evicted}
-use Rattle.recency.proofs.Order.{order-use, has-order, length-order, lasts-most}
+use Rattle.recency.proofs.Order.{order-use, has-order}
 use Rattle.recency.proofs.Linking.{linked-store}
 use Rattle.recency.proofs.Counting.{part-none}
 use Rattle.recency.proofs.Fresh.{whole, shortened-count, shortened-holds}
@@ -72,12 +72,6 @@ module _ {log next stale heads : List ℕ} {q : Queue} (h : Held log next stale 
 
   pub length-held : length (residents log q) ≡ q .resident
   length-held = h .logged .count
-
-  few : q .resident < length log
-  unfolding residents
-  few =
-      let w = part log (q .low) (q .now) in
-      omega (arith, h .logged .count, length-order w, lasts-most w, long log (q .low) (q .now) 0 (h .logged .behind) (h .logged .within), h .room)
 
   -- The rows hold the cache after an eviction too.
   pub gone-held : {r : Evicted} → Gone log stale q r → Held log next stale heads (r .queue)
@@ -163,84 +157,118 @@ module _ {log next stale heads : List ℕ} {q : Queue} {m page : ℕ} (can : Can
       let a′ : length log₂ ≡ length log = a ∙ length-set log (q .now) page in
       rw order-is at (shortened-holds s (omega (arith, can .few)) (omega (arith, b, length-set stale (q .now) 0, can .stale-long)))
 
--- ---- a page that is resident
+-- ---- a page used
 
-module _ {log next stale heads : List ℕ} {q : Queue} {page e : ℕ} (can : CanRenew log next stale heads q page e) where
-  last : newest (at log) page (q .now) ≡ e
-  unfolding lastFrom
-  last =
-      split (ltb (q .low) (newest (at log) page (q .now)))
-      (λ t. sym (rw t at (can .last)))
-      (λ t. let z : e ≡ 0 = rw t at (can .last) in absurd (omega (arith, can .found)))
+module _ {log next stale heads : List ℕ} {q : Queue} {page e : ℕ} (can : CanUse log next stale heads q page e) where
+  module _ (found : q .low < e) where
+    last : newest (at log) page (q .now) ≡ e
+    unfolding lastFrom
+    last =
+        split (ltb (q .low) (newest (at log) page (q .now)))
+        (λ t. sym (rw t at (can .last)))
+        (λ t. let z : e ≡ 0 = rw t at (can .last) in absurd (omega arith))
 
-  place-of : (getD log (e - 1) 0 ≡ page) × (e - 1 < q .now)
-  unfolding at
-  place-of = newest-at (at log) page (q .now) (e - 1) (last ∙ omega (arith, can .found))
+    place-of : (getD log (e - 1) 0 ≡ page) × (e - 1 < q .now)
+    unfolding at
+    place-of = newest-at (at log) page (q .now) (e - 1) (last ∙ omega arith)
 
-  pub renew-stales : e - 1 < length stale
-  renew-stales = omega (arith, place-of .1, can .held .room, can .held .logged .stale-long)
+    -- What stands before the page's last place is stale already.
+    found-marks : (r : ℕ) → q .low ≤ r → r < q .now
+        → ltb 0 (getD (set stale (e - 1) 1) r 0) ≡ has (getD log r 0) (drop (r + 1) (take (q .now) log)) || eqb (getD log r 0) page
+    unfolding at
+    found-marks r f h =
+        let l = can .held .logged in
+        split (eqb r (e - 1))
+        (λ t.
+        let z = same r (e - 1) t in
+        let w : e - 1 < length stale = omega (arith, place-of .1, can .held .room, l .stale-long) in
+        rw (z, getD-set-same stale (e - 1) 1 0 w, lt-ltb 0 1 (omega arith), eq-eqb (getD log (e - 1) 0) page (place-of .0), or-true))
+        (λ t.
+        let d = eqb-false r (e - 1) t in
+        rw (getD-set-other stale (e - 1) r 1 0 d, l .marked .are r f h) (split (eqb (getD log r 0) page)
+        (λ y.
+        let o : r < e - 1 = split (ltb r (e - 1))
+            (λ u. ltb-true r (e - 1) u)
+            (λ u. let v = ltb-false r (e - 1) u in absurd (newest-beyond (at log) page (q .now) r (omega (arith, last)) h (same (getD log r 0) page y))) in
+        rw (y, or-true) (has-part log (r + 1) (q .now) (getD log r 0) (omega arith) (l .within) (e - 1) (omega arith) (place-of .1) (place-of .0 ∙ sym (same (getD log r 0) page y))))
+        (λ y. rw (y, or-false))))
 
-  -- What stands before the page's last place is stale already.
-  marks : (r : ℕ) → q .low ≤ r → r < q .now → ltb 0 (getD (set stale (e - 1) 1) r 0) ≡ has (getD log r 0) (drop (r + 1) (take (q .now) log)) || eqb (getD log r 0) page
-  unfolding at
-  marks r f h =
-      let l = can .held .logged in
-      split (eqb r (e - 1))
-      (λ t.
-      let z = same r (e - 1) t in
-      rw (z, getD-set-same stale (e - 1) 1 0 renew-stales, lt-ltb 0 1 (omega arith), eq-eqb (getD log (e - 1) 0) page (place-of .0), or-true))
-      (λ t.
-      let d = eqb-false r (e - 1) t in
-      rw (getD-set-other stale (e - 1) r 1 0 d, l .marked .are r f h) (split (eqb (getD log r 0) page)
-      (λ y.
-      let o : r < e - 1 = split (ltb r (e - 1))
-      (λ u. ltb-true r (e - 1) u)
-      (λ u. let v = ltb-false r (e - 1) u in absurd (newest-beyond (at log) page (q .now) r (omega (arith, last, can .found)) h (same (getD log r 0) page y))) in
-      rw (y, or-true) (has-part log (r + 1) (q .now) (getD log r 0) (omega arith) (l .within) (e - 1) (omega arith) (place-of .1) (place-of .0 ∙ sym (same (getD log r 0) page y))))
-      (λ y. rw (y, or-false))))
+  module _ (miss : e ≤ q .low) where
+    away : has page (residents log q) ≡ false
+    away = has-held (can .held) page (can .last) ∙ le-ltb (q .low) e miss
 
-  pub renew-append : CanAppend log next (set stale (e - 1) 1) heads q (q .resident) page
-  renew-append =
+    other : (r : ℕ) → q .low ≤ r → r < q .now → eqb (getD log r 0) page ≡ false
+    unfolding residents
+    other r f h =
+        split (eqb (getD log r 0) page)
+        (λ t.
+        let l = can .held .logged in
+        let y = has-part log (q .low) (q .now) page (l .behind) (l .within) r f h (same (getD log r 0) page t) in
+        absurd (false≢true (sym away ∙ has-order page (part log (q .low) (q .now)) ∙ y)))
+        (λ t. t)
+
+  -- It can be marked,
+  pub use-mark : CanMark stale (q .low) e (q .resident)
+  use-mark = record {
+    within = split (ltb (q .low) e)
+        (λ t. omega (arith, place-of (ltb-true (q .low) e t) .1, can .held .room, can .held .logged .stale-long))
+        (λ t. omega (arith, ltb-false (q .low) e t, can .held .logged .behind, can .held .logged .within, can .held .logged .stale-long));
+    small = omega (arith, can .few, can .held .linked .small);
+  }
+
+  -- and then appended.
+  pub use-append : {stale′ : List ℕ} {m : ℕ} → stale′ ≡ staleWith (q .low) e stale → m ≡ countWith (q .low) e (q .resident) → CanAppend log next stale′ heads q m page
+  unfolding staleWith countWith
+  use-append a b =
       let h = can .held in
-      record {
+      split (ltb (q .low) e)
+      (λ t.
+      let o = ltb-true (q .low) e t in
+      rw (a, b, t) record {
         behind = h .logged .behind;
         stale-long = rw length-set (h .logged .stale-long);
         linked = h .linked;
         room = h .room;
-        marks = marks;
-        count = length-move page (residents log q) (has-held h page (can .last) ∙ lt-ltb (q .low) e (can .found)) ∙ length-held h;
-        few = few h;
-      }
-
--- ---- a page that comes in
-
-module _ {log next stale heads : List ℕ} {q : Queue} {page : ℕ} (can : CanEnter log next stale heads q page) where
-  other : (r : ℕ) → q .low ≤ r → r < q .now → eqb (getD log r 0) page ≡ false
-  unfolding residents
-  other r f h =
-      split (eqb (getD log r 0) page)
+        marks = found-marks o;
+        count = length-move page (residents log q) (has-held h page (can .last) ∙ t) ∙ length-held h;
+        few = omega (arith, can .few);
+      })
       (λ t.
-      let l = can .held .logged in
-      let y = has-part log (q .low) (q .now) page (l .behind) (l .within) r f h (same (getD log r 0) page t) in
-      absurd (false≢true (sym (can .new) ∙ has-order page (part log (q .low) (q .now)) ∙ y)))
-      (λ t. t)
-
-  absent : remove page (residents log q) ≡ residents log q
-  absent = remove-absent page (residents log q) (can .new)
-
-  pub enter-append : CanAppend log next stale heads q (q .resident + 1) page
-  enter-append =
-      let h = can .held in
-      record {
+      let o = ltb-false (q .low) e t in
+      rw (a, b, t) record {
         behind = h .logged .behind;
         stale-long = h .logged .stale-long;
         linked = h .linked;
         room = h .room;
-        marks = λ r f o. rw (other r f o, or-false) (h .logged .marked .are r f o);
-        count = rw absent (omega (arith, length-held h));
+        marks = λ r f k. rw (other o r f k, or-false) (h .logged .marked .are r f k);
+        count = rw (remove-absent page (residents log q) (away o)) (omega (arith, length-held h));
         few = can .few;
-      }
+      })
 
-  pub entered : {log′ next′ stale′ heads′ : List ℕ} {r : Queue} → Holds (page ∷ remove page (residents log q)) log′ next′ stale′ heads′ r
-      → Holds (page ∷ residents log q) log′ next′ stale′ heads′ r
-  entered w = rw absent at w
+-- ---- as `mark` does it
+
+module _ (low e m : ℕ) where
+  pub count-found : low < e → m ≡ countWith low e m
+  unfolding countWith
+  count-found o = rw (lt-ltb low e o)
+
+  pub count-new : e ≤ low → m + 1 ≡ countWith low e m
+  unfolding countWith
+  count-new o = rw (le-ltb low e o)
+
+module _ (stale : List ℕ) (low e : ℕ) where
+  pub stale-found : low < e → set stale (e - 1) 1 ≡ staleWith low e stale
+  unfolding staleWith
+  stale-found o = rw (lt-ltb low e o)
+
+  pub stale-new : e ≤ low → stale ≡ staleWith low e stale
+  unfolding staleWith
+  stale-new o = rw (le-ltb low e o)
+
+-- A page that is not found is not found in a shorter part either.
+pub last-later : (low low′ : ℕ) (log : List ℕ) (n p : ℕ) {e : ℕ} → e ≡ lastFrom low log n p → e ≤ low → low ≤ low′ → e ≡ lastFrom low′ log n p
+unfolding lastFrom
+last-later low low′ log n p {e} k o h =
+    split (ltb low (newest (at log) p n))
+    (λ t. let z : e ≡ newest (at log) p n = rw t at k in absurd (omega (arith, ltb-true low (newest (at log) p n) t)))
+    (λ t. let z : e ≡ 0 = rw t at k in z ∙ sym (rw (le-ltb low′ (newest (at log) p n) (omega (arith, ltb-false low (newest (at log) p n) t)))))

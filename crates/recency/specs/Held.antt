@@ -1,10 +1,10 @@
 -- A cache held as a log: which pages are resident, what the rows must say, and what the functions are told and leave. Assumes nothing.
-use Prim.Native.Nat.{ℕ, _+_, _≤_, _<_}
+use Prim.Native.Nat.{ℕ, _+_, _-_, _≤_, _<_}
 use mathlib.Core.Path.{_≡_}
-use mathlib.Core.Bool.{false, _||_}
+use mathlib.Core.Bool.{cond, _||_}
 use mathlib.Core.List.{List, _∷_, dropLast, getLast?, reverse}
 use mathlib.Core.Option.{some}
-use lib.ListN.{length, getD, take, drop}
+use lib.ListN.{length, getD, take, drop, set}
 use lib.Dec.{eqb, ltb}
 use Rattle.pages.specs.Pages.{has, remove, Distinct}
 use Rattle.recency.specs.Order.{lasts, order}
@@ -92,16 +92,23 @@ pub record CanAppend (log next stale heads : List ℕ) (q : Queue) (m page : ℕ
   pub count : length (page ∷ remove page (residents log q)) ≡ m
   pub few : m < length log
 
--- The page is resident, and its last place known.
-pub record CanRenew (log next stale heads : List ℕ) (q : Queue) (page e : ℕ) : Type 0 where
+-- The place where a page stood last can be marked, and the pages counted.
+pub record CanMark (stale : List ℕ) (low e m : ℕ) : Type 0 where
+  pub within : e ≤ length stale
+  pub small : m < 65535
+
+-- How many pages are resident once a page is used that was found at e, or not found: one more where it comes in.
+unfoldable pub countWith : ℕ → ℕ → ℕ → ℕ
+countWith low e m = cond (ltb low e) m (m + 1)
+
+-- The marks then: the place where it was found is stale.
+unfoldable pub staleWith : ℕ → ℕ → List ℕ → List ℕ
+staleWith low e stale = cond (ltb low e) (set stale (e - 1) 1) stale
+
+-- A page can be used: its last place is known, and a log of one page more has room.
+pub record CanUse (log next stale heads : List ℕ) (q : Queue) (page e : ℕ) : Type 0 where
   pub held : Held log next stale heads q
   pub last : e ≡ lastFrom (q .low) log (q .now) page
-  pub found : q .low < e
-
--- The page is new, and a log of one page more has room.
-pub record CanEnter (log next stale heads : List ℕ) (q : Queue) (page : ℕ) : Type 0 where
-  pub held : Held log next stale heads q
-  pub new : has page (residents log q) ≡ false
   pub few : q .resident + 1 < length log
 
 -- There is a page to evict.
@@ -112,6 +119,7 @@ pub record CanEvict (log stale : List ℕ) (q : Queue) : Type 0 where
 -- The last of the resident pages is gone, and told.
 pub record Gone (log stale : List ℕ) (q : Queue) (r : Evicted) : Type 0 where
   pub logged : Logged log stale (r .queue)
+  pub from : q .low ≤ r .queue .low
   pub now-is : r .queue .now ≡ q .now
   pub pages-are : residents log (r .queue) ≡ dropLast (residents log q)
   pub last-is : getLast? (residents log q) ≡ some (r .page)

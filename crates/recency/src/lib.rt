@@ -6,7 +6,7 @@ ghost use lib.ListN.{length, take, drop};
 ghost use Rattle.pages.specs.Rows.{over};
 ghost use Rattle.pages.specs.Pages.{remove};
 ghost use Rattle.recency.specs.Linked.{buckets, bucketOf, Linked, lastFrom, CanLink};
-ghost use Rattle.recency.specs.Held.{residents, Logged, Holds, CanIndex, Indexed, CanPack, Packed, CanShorten, Shortened, CanAppend, CanRenew, CanEnter, CanEvict, Gone, CanLoad, CanSave};
+ghost use Rattle.recency.specs.Held.{residents, Logged, Holds, CanIndex, Indexed, CanPack, Packed, CanShorten, Shortened, CanAppend, CanMark, countWith, staleWith, CanUse, CanEvict, Gone, CanLoad, CanSave};
 
 // How many places a log has: twice the largest cache, so that it is packed at most once in as many uses as a cache has pages.
 pub const PLACES: usize = 8192;
@@ -141,8 +141,21 @@ fn append(
     }
 }
 
-// A resident page, whose last place is e counted from 1, is used again.
-pub fn renew(
+// The place where a page stood last, e counted from 1, is stale once the page is used again. Answers how many pages are resident then: one more where it comes in.
+fn mark(stale: &mut [u8], low: usize, e: usize, m: usize) -> usize
+    requires { ⌜ CanMark (now stale) low e m ⌝ }
+    ensures { λ r. ⌜ r ≡ countWith low e m ⌝ }
+    ensures { λ _. ⌜ now (stale .exit) ≡ staleWith low e (now (stale .entry)) ⌝ }
+{
+    if low < e {
+        stale[e - 1] = 1;
+        return m;
+    }
+    m + 1
+}
+
+// A page is used, whose last place is e counted from 1; a page that is not found comes in.
+pub fn used(
     log: &mut [u64],
     next: &mut [u16],
     stale: &mut [u8],
@@ -151,26 +164,11 @@ pub fn renew(
     page: u64,
     e: usize,
 ) -> Queue
-    requires { ⌜ CanRenew (now log) (now next) (now stale) (now heads) q page e ⌝ }
+    requires { ⌜ CanUse (now log) (now next) (now stale) (now heads) q page e ⌝ }
     ensures { λ r. ⌜ Holds (page ∷ remove page (residents (now (log .entry)) q)) (now (log .exit)) (now (next .exit)) (now (stale .exit)) (now (heads .exit)) r ⌝ }
 {
-    stale[e - 1] = 1;
-    append(log, next, stale, heads, q, q.resident, page)
-}
-
-// A page that is not resident comes in.
-pub fn enter(
-    log: &mut [u64],
-    next: &mut [u16],
-    stale: &mut [u8],
-    heads: &mut [u16],
-    q: Queue,
-    page: u64,
-) -> Queue
-    requires { ⌜ CanEnter (now log) (now next) (now stale) (now heads) q page ⌝ }
-    ensures { λ r. ⌜ Holds (page ∷ residents (now (log .entry)) q) (now (log .exit)) (now (next .exit)) (now (stale .exit)) (now (heads .exit)) r ⌝ }
-{
-    append(log, next, stale, heads, q, q.resident + 1, page)
+    let m = mark(stale, q.low, e, q.resident);
+    append(log, next, stale, heads, q, m, page)
 }
 
 // The least recently used page goes: the first from `low` on that is not stale.

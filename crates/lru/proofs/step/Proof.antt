@@ -1,60 +1,37 @@
 -- `lru::step` meets its contract. Assumes nothing.
 use borrow.Author.Needs.{needs}
-use Rattle.lru.proofs.Steps.{step-enter, step-replace, stepped-hit, stepped-room, stepped-full}
+use Rattle.lru.proofs.Steps.{step-use, stepped-hit, stepped-fetch}
 use Rattle.lru.proofs.step.Statement.{statement}
 use Rattle.lru.proofs.step.Tie as tie
 
--- There is room for the page.
-enter-requires : tie.Need-enter-requires
-enter-requires c κs =
-    let room = c .before .before .before .before in
-    let miss = room .before .before in
-    let found = miss .before .before in
+used-requires : tie.Need-used-requires
+used-requires c κs =
+    let made = c .before .before .before .before .before in
+    let found = made .before .before .before in
     let start = found .before .before .before .before .before .before .before .before .before in
-    step-enter (start .pre) (start .args .x) (found .find .ensures) (miss .if1 .left) (room .if2 .taken)
+    step-use (start .pre) (start .args .x) (found .find .ensures) (made .make-room .ensures)
 
--- There is not, and the last is gone.
-replace-requires : tie.Need-enter-requires-2
-replace-requires c κs =
-    let gone = c .before .before .before .before in
-    let full = gone .before .before .before in
-    let miss = full .before .before in
-    let found = miss .before .before in
-    let start = found .before .before .before .before .before .before .before .before .before in
-    step-replace (start .pre) (start .args .x) (found .find .ensures) (miss .if1 .left) (full .if2 .left) (gone .evict .ensures)
-
--- There is room for its event.
-put-requires : tie.Need-put-requires-2
-put-requires c κs = c .before .before .before .before .before .before .before .before .before .before .before .before .before .before .before .before .before .before .before .before .before .before .before .before .before .before .before .before .before .before .pre .room
+-- There is room for an event.
+put-requires : tie.Need-put-requires
+put-requires c κs = c .before .before .before .before .before .before .before .before .before .before .before .before .before .before .before .before .before .before .before .before .before .before .before .before .before .before .before .before .before .pre .room
 
 hit : tie.Need-returns
 hit c =
-    let used = c .before .before .before .before .before .before .before .before in
-    let here = used .before .before .before .before .before in
-    let found = here .before .before in
+    let done = c .before .before .before .before .before .before .before .before .before .before in
+    let made = done .before .before .before .before .before .before in
+    let found = made .before .before .before in
     let start = found .before .before .before .before .before .before .before .before .before in
-    stepped-hit (start .pre) (start .args .x) (found .find .ensures) (here .if1 .taken) (used .renew .ensures)
+    stepped-hit (start .pre) (start .args .x) (found .find .ensures) (made .make-room .ensures) (done .used .ensures) (c .if1 .taken)
 
-room : tie.Need-returns-2
-room c =
-    let told = c .before .before in
-    let used = told .before .before .before .before .before .before .before .before .before .before in
-    let room = used .before .before .before .before .before in
-    let miss = room .before .before in
-    let found = miss .before .before in
+fetch : tie.Need-returns-2
+fetch c =
+    let told = c .before .before .before in
+    let miss = told .before .before in
+    let done = miss .before .before .before .before .before .before .before .before .before .before in
+    let made = done .before .before .before .before .before .before in
+    let found = made .before .before .before in
     let start = found .before .before .before .before .before .before .before .before .before in
-    stepped-room (start .pre) (start .args .x) (found .find .ensures) (miss .if1 .left) (room .if2 .taken) (used .enter .ensures) (told .put .ensures)
-
-full : tie.Need-returns-3
-full c =
-    let told = c .before .before in
-    let used = told .before .before .before .before .before .before .before .before .before .before in
-    let gone = used .before .before .before .before .before in
-    let full = gone .before .before .before in
-    let miss = full .before .before in
-    let found = miss .before .before in
-    let start = found .before .before .before .before .before .before .before .before .before in
-    stepped-full (start .pre) (start .args .x) (found .find .ensures) (miss .if1 .left) (full .if2 .left) (gone .evict .ensures) (used .enter2 .ensures) (told .put2 .ensures)
+    stepped-fetch (start .pre) (start .args .x) (found .find .ensures) (made .make-room .ensures) (done .used .ensures) (miss .if1 .left) (told .put .ensures)
 
 pub step-spec : {M : Type 1} → statement M
 step-spec =
@@ -63,25 +40,16 @@ step-spec =
     (λ c. search needs)
     (λ c κs. search needs)
     (λ c κs. search needs)
+    used-requires
     (λ c. search needs)
     (λ c. search needs)
     (λ c. search needs)
     (λ c. search needs)
     hit
-    enter-requires
-    (λ c κs. search needs)
-    (λ c. search needs)
-    (λ c. search needs)
-    (λ c. search needs)
-    (λ c. search needs)
-    (λ c. search needs)
-    room
-    (λ c κs. search needs)
-    replace-requires
     put-requires
     (λ c. search needs)
     (λ c. search needs)
     (λ c. search needs)
     (λ c. search needs)
     (λ c. search needs)
-    full)
+    fetch)
