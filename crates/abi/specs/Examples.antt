@@ -9,7 +9,7 @@ use Rattle.trace.specs.Rules.{allowed}
 use Rattle.trace.specs.Verdict.{first, _then_}
 use Rattle.trace.specs.Check.{isField, itemsVerdict, verdict, answer, checked}
 use Rattle.trace.specs.Examples.{fileT}
-use Rattle.lru.specs.Replay.{replayVerdict, replayAnswer}
+use Rattle.replays.specs.Replay.{replayVerdict, replayAnswer}
 use Rattle.abi.specs.Rows.{checkRow, replayRow}
 
 -- T whole, its first 22 bytes, and with item 2 at fault.

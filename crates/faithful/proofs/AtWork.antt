@@ -20,7 +20,7 @@ use Rattle.slim.specs.Keep.{isFirst, isLast, phase, keeps, kept, reduce}
 use Rattle.slim.specs.Reduce.{modeOf, keptOf, reducedHeader, reducedFile}
 use Rattle.join.specs.Join.{joinedKind, joinedHeader, joinedFile}
 use Rattle.join.specs.Trees.{files, joined}
-use Rattle.lru.specs.Replay.{cacheAfter, eventsAfter}
+use Rattle.replays.specs.Replay.{cacheAfter, eventsAfter}
 use Rattle.faithful.specs.Parts.{recorded}
 use Rattle.faithful.specs.Demand3.{IsRecording, Portion, IsCut, short, IsJoinOf, IsCache, Faithful}
 use Rattle.faithful.specs.Corollaries.{portionOf, SameReplay}

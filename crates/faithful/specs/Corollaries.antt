@@ -12,7 +12,7 @@ use Rattle.trace.specs.declared.Item.{Item}
 use Rattle.slim.specs.declared.Mode.{Mode}
 use Rattle.slim.specs.declared.Mode.the-variants.{FastSlim, Demand}
 use Rattle.join.specs.Trees.{Tree, files, joined, Within}
-use Rattle.lru.specs.Replay.{cacheAfter, eventsAfter}
+use Rattle.replays.specs.Replay.{cacheAfter, eventsAfter}
 use Rattle.faithful.specs.Parts.{Part, recorded}
 use Rattle.faithful.specs.Demand3.{IsRecording, Portion, IsCut, short, IsJoinOf, IsCache, ReplaysAs, Faithful}
 

@@ -23,9 +23,9 @@ use Rattle.join.specs.declared.Joined.{Joined}
 use Rattle.join.specs.declared.Joined.the-variants as joins
 use Rattle.lru.specs.Lru.{Event, hit, fetch, step, _then_, replay, word, words}
 use Rattle.lru.specs.Tally.{isFetch, isEviction, tallied, tally, perMillion}
-use Rattle.lru.specs.Replay.{twice, badStart, replayVerdict, replayOf, summaryOf, replayAnswer, cacheAfter, eventsAfter}
-use Rattle.lru.specs.declared.Replayed.{Replayed}
-use Rattle.lru.specs.declared.Replayed.the-variants as replays
+use Rattle.replays.specs.Replay.{twice, badStart, replayVerdict, replayOf, summaryOf, replayAnswer, cacheAfter, eventsAfter}
+use Rattle.replays.specs.declared.Replayed.{Replayed}
+use Rattle.replays.specs.declared.Replayed.the-variants as replays
 use Rattle.faithful.specs.Corollaries.{wholeFile as file}
 
 -- One example of the paper: what the definitions compute, and what the paper says.

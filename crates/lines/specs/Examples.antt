@@ -16,7 +16,7 @@ use Rattle.slim.specs.Keep.{isFirst, isLast, phase, keeps, kept, reduce}
 use Rattle.slim.specs.Reduce.{isMode, modeOf, keptOf, reducedHeader, reducedFile, falls, reduceVerdict}
 use Rattle.lru.specs.Lru.{replay, step, hit, fetch, _then_ as _and_}
 use Rattle.lru.specs.Tally.{tally, tallied, isFetch, isEviction, perMillion}
-use Rattle.lru.specs.Replay.{twice, badStart, replayVerdict, replayOf, summaryOf}
+use Rattle.replays.specs.Replay.{twice, badStart, replayVerdict, replayOf, summaryOf}
 use Rattle.lines.specs.Text.{leading, digits, refusalLine}
 use Rattle.lines.specs.Report.{report, fetchLines, tallyLine, pagesLine, pageFields}
 use Rattle.lines.specs.Programs.{reduceText, reduceProgram, replayText, replayProgram}

@@ -100,17 +100,3 @@ pub record Ran (o : Outcome) (c : Tally) (cache events : List ℕ) (r : Finish) 
   pub events-are : events′ ≡ over (words (o .events)) events
   pub resident-is : r .resident ≡ length (o .final)
   pub tally-is : r .tally ≡ c
-
--- ---- the start
-
--- The rows have room for a list's pages.
-pub record CanSift (list next heads : List ℕ) : Type 0 where
-  pub small : length list ≤ 65535
-  pub next-long : length list ≤ length next
-  pub heads-long : buckets ≤ length heads
-
--- They have room for K pages.
-pub record CanStart (K : ℕ) (next heads : List ℕ) : Type 0 where
-  pub small : K ≤ 65535
-  pub next-long : K ≤ length next
-  pub heads-long : buckets ≤ length heads

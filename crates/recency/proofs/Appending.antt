@@ -1,6 +1,6 @@
 -- A use of a page: one that is resident, and one that comes in. Assumes nothing.
-use Prim.Native.Nat.{ℕ, suc, _+_, _-_, _≤_, _<_}
-use mathlib.Core.Path.{_≡_, refl, sym, ap, _∙_}
+use Prim.Native.Nat.{ℕ, _+_, _-_, _≤_, _<_}
+use mathlib.Core.Path.{_≡_, sym, ap, _∙_}
 use mathlib.Core.Bool.{true, false, _||_, or-false, or-true, false≢true}
 use mathlib.Core.List.{List, [], _∷_, _++_}
 use native.Mathlib.Omega.{arith}
@@ -8,17 +8,17 @@ use native.Mathlib.Numerals.{add-one}
 use lib.ListN.{length, getD, take, drop, set, length-set, length-drop}
 use lib.Seq.{length-take-le, getD-take, getD-drop, getD-set-same, getD-set-other, take-suc-set, drop-append-le}
 use lib.Dec.{eqb, ltb}
-use borrow.Author.Tests.{lt-ltb, le-ltb, ltb-true, ltb-false, eq-eqb, ne-eqb, eqb-false}
+use borrow.Author.Tests.{lt-ltb, le-ltb, ltb-true, ltb-false, eq-eqb, eqb-false}
 use Rattle.pages.specs.Pages.{has, remove, place}
 use Rattle.pages.proofs.Choice.{split, same}
 use Rattle.pages.proofs.Added.{has-join}
 use Rattle.pages.proofs.Pages.{length-move, remove-absent}
 use Rattle.pages.proofs.Table.{has-getD, getD-place, place-within}
 use Rattle.chains.specs.Chains.{at, newest}
-use Rattle.chains.proofs.Newest.{newest-at, newest-beyond, newest-most}
+use Rattle.chains.proofs.Newest.{newest-at, newest-beyond}
 use Rattle.recency.specs.Order.{order}
 use Rattle.recency.specs.Linked.{Linked, CanLink, lastFrom}
-use Rattle.recency.specs.Held.{part, residents, Marked, Logged, Held, Holds, CanPack, CanShorten, Shortened, CanAppend, CanMark, countWith, staleWith, CanUse, Gone}
+use Rattle.recency.specs.Held.{part, residents, Marked, Held, Holds, CanShorten, Shortened, CanAppend, CanMark, countWith, staleWith, CanUse, Gone}
 use Rattle.recency.specs.declared.Queue.{Queue}
 use Rattle.recency.specs.declared.Evicted.{Evicted}
 use Rattle.recency.proofs.Order.{order-use, has-order}
@@ -188,8 +188,8 @@ module _ {log next stale heads : List ℕ} {q : Queue} {page e : ℕ} (can : Can
         rw (getD-set-other stale (e - 1) r 1 0 d, l .marked .are r f h) (split (eqb (getD log r 0) page)
         (λ y.
         let o : r < e - 1 = split (ltb r (e - 1))
-            (λ u. ltb-true r (e - 1) u)
-            (λ u. let v = ltb-false r (e - 1) u in absurd (newest-beyond (at log) page (q .now) r (omega (arith, last)) h (same (getD log r 0) page y))) in
+        (λ u. ltb-true r (e - 1) u)
+        (λ u. let v = ltb-false r (e - 1) u in absurd (newest-beyond (at log) page (q .now) r (omega (arith, last)) h (same (getD log r 0) page y))) in
         rw (y, or-true) (has-part log (r + 1) (q .now) (getD log r 0) (omega arith) (l .within) (e - 1) (omega arith) (place-of .1) (place-of .0 ∙ sym (same (getD log r 0) page y))))
         (λ y. rw (y, or-false))))
 

@@ -1,5 +1,5 @@
 -- The chains of a log: of no place, of a place more, with a store behind them, and the search for a page's last place. Assumes nothing.
-use Prim.Native.Nat.{ℕ, suc, _+_, _-_, _/_, _%_, _≤_, _<_}
+use Prim.Native.Nat.{ℕ, _+_, _-_, _/_, _%_, _≤_, _<_}
 use mathlib.Core.Path.{_≡_, refl, sym, ap, _∙_}
 use mathlib.Core.List.{List}
 use native.Mathlib.Omega.{arith}
@@ -7,7 +7,7 @@ use native.Mathlib.Numerals.{add-one}
 use lib.ListN.{length, getD, set, length-set, replicate, length-replicate}
 use lib.Seq.{getD-set-other}
 use borrow.Author.Tests.{lt-ltb, le-ltb}
-use Rattle.chains.specs.Chains.{at, newest, Chained, CanPush, headsWith, nextWith, mixed}
+use Rattle.chains.specs.Chains.{at, newest, CanPush, headsWith, nextWith, mixed}
 use Rattle.chains.proofs.Newest.{newest-same}
 use Rattle.chains.proofs.Chained.{chained-none, chained-more, low-zeros, Seeking, seeking-none, seeking-within, seeking-less, seeking-most, seeking-here, seeking-more}
 use Rattle.recency.specs.Linked.{buckets, bucketOf, bucketAt, Linked, CanLink, lastFrom}

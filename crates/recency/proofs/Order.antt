@@ -1,14 +1,14 @@
 -- Laws of a log: what a use at its end, a stale place at its front, and its last places alone do to the order. Assumes nothing.
 use Prim.Native.Nat.{ℕ, _≤_}
-use mathlib.Core.Path.{_≡_, refl, sym, ap, _∙_}
+use mathlib.Core.Path.{_≡_, refl, ap, _∙_}
 use mathlib.Core.Bool.{Bool, true, false, _||_}
-use mathlib.Core.List.{List, [], _∷_, _++_, append-nil, reverse, reverse-cons, reverse-reverse}
+use mathlib.Core.List.{List, [], _∷_, _++_, append-nil, reverse, reverse-cons}
 use native.Mathlib.Omega.{arith}
 use lib.ListN.{length, length-reverse}
 use lib.Dec.{eqb}
 use Rattle.pages.specs.Pages.{has, remove, Distinct}
 use Rattle.pages.proofs.Choice.{split, same, eqb-sym}
-use Rattle.pages.proofs.Added.{has-join, distinct-new}
+use Rattle.pages.proofs.Added.{has-join}
 use Rattle.pages.proofs.Pages.{remove-append, remove-absent, remove-snoc}
 use Rattle.recency.specs.Order.{lasts, order}
 

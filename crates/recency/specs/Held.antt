@@ -2,7 +2,7 @@
 use Prim.Native.Nat.{ℕ, _+_, _-_, _≤_, _<_}
 use mathlib.Core.Path.{_≡_}
 use mathlib.Core.Bool.{cond, _||_}
-use mathlib.Core.List.{List, _∷_, dropLast, getLast?, reverse}
+use mathlib.Core.List.{List, _∷_, dropLast, getLast?}
 use mathlib.Core.Option.{some}
 use lib.ListN.{length, getD, take, drop, set}
 use lib.Dec.{eqb, ltb}

@@ -2,11 +2,11 @@
 ghost use mathlib.Core.Path.{_≡_};
 ghost use Prim.Native.Nat.{_+_, _≤_, _<_};
 ghost use mathlib.Core.List.{_∷_, reverse};
-ghost use lib.ListN.{length, take, drop};
+ghost use lib.ListN.{length};
 ghost use Rattle.pages.specs.Rows.{over};
 ghost use Rattle.pages.specs.Pages.{remove};
 ghost use Rattle.recency.specs.Linked.{buckets, bucketOf, Linked, lastFrom, CanLink};
-ghost use Rattle.recency.specs.Held.{residents, Logged, Holds, CanIndex, Indexed, CanPack, Packed, CanShorten, Shortened, CanAppend, CanMark, countWith, staleWith, CanUse, CanEvict, Gone, CanLoad, CanSave};
+ghost use Rattle.recency.specs.Held.{residents, Holds, CanIndex, Indexed, CanPack, Packed, CanShorten, Shortened, CanAppend, CanMark, countWith, staleWith, CanUse, CanEvict, Gone, CanLoad, CanSave};
 
 // How many places a log has: twice the largest cache, so that it is packed at most once in as many uses as a cache has pages.
 pub const PLACES: usize = 8192;

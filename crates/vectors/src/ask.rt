@@ -7,7 +7,7 @@ use super::tell;
 use super::tell::Tally;
 use join::Joined;
 use limits::Cache;
-use lru::Replayed;
+use replays::Replayed;
 use slim::Reduced;
 use trace::Checked;
 ghost use Prim.Native.Nat.{_≤_};
@@ -113,7 +113,7 @@ fn replay_into(
     let room = most(s.room, events.len());
     noise::fill_numbers(&mut cache[0..places], start);
     noise::fill_numbers(&mut events[0..room], &start[0..0]);
-    match lru::replay(
+    match replays::replay(
         file,
         s.size,
         &mut cache[0..places],

@@ -1,9 +1,9 @@
--- `lru::replay_in` meets its contract. Assumes nothing.
+-- `replays::replay_in` meets its contract. Assumes nothing.
 use borrow.Author.Needs.{needs}
-use Rattle.lru.proofs.Replaying.{refused-answer, refused-cache, refused-events, done-sound, done-answer, done-cache, done-events}
+use Rattle.replays.proofs.Replaying.{refused-answer, refused-cache, refused-events, done-sound, done-answer, done-cache, done-events}
 use Rattle.lru.proofs.Rows.{rows-kept}
-use Rattle.lru.proofs.replay_in.Statement.{statement}
-use Rattle.lru.proofs.replay_in.Tie as tie
+use Rattle.replays.proofs.replay_in.Statement.{statement}
+use Rattle.replays.proofs.replay_in.Tie as tie
 
 -- The verdict is sound, and the rows are as long as before.
 sound-requires : tie.Need-replay-sound-requires

@@ -1,8 +1,8 @@
--- `lru::replay_sound` meets its contract. Assumes nothing.
+-- `replays::replay_sound` meets its contract. Assumes nothing.
 use borrow.Author.Needs.{needs}
-use Rattle.lru.proofs.Replaying.{played-long, played-run, played-few, played-summary, played-cache, played-events}
-use Rattle.lru.proofs.replay_sound.Statement.{statement}
-use Rattle.lru.proofs.replay_sound.Tie as tie
+use Rattle.replays.proofs.Replaying.{played-long, played-run, played-few, played-summary, played-cache, played-events}
+use Rattle.replays.proofs.replay_sound.Statement.{statement}
+use Rattle.replays.proofs.replay_sound.Tie as tie
 
 -- What was told of the file holds of the rate.
 few : tie.Need-per-million-requires

@@ -1,14 +1,13 @@
 -- `replay`, from its verdict and from what the loop leaves. Assumes nothing.
 use Prim.Native.Nat.{ℕ, _+_, _*_, _≤_}
-use mathlib.Core.Path.{_≡_, refl, sym, ap, _∙_}
-use mathlib.Core.List.{List, [], _∷_}
+use mathlib.Core.Path.{_≡_, sym, _∙_}
+use mathlib.Core.List.{List}
 use native.Mathlib.Omega.{arith}
-use lib.ListN.{length, take, length-append}
+use lib.ListN.{length, take}
 use Rattle.limits.proofs.Numbers.{itemsMost}
 use Rattle.pages.specs.Rows.{over}
 use Rattle.trace.specs.Layout.{header, items, itemsFrom}
 use Rattle.trace.specs.Refusals.{row}
-use Rattle.trace.specs.declared.Item.{Item}
 use Rattle.trace.specs.declared.Header.{Header}
 use Rattle.trace.specs.declared.Reason.{Reason}
 use Rattle.trace.specs.declared.Refusal.{Refusal}
@@ -17,17 +16,16 @@ use Rattle.trace.specs.declared.Verdict.the-variants.{Sound, Faulty}
 use Rattle.trace.proofs.Allowed.{allowed-facts}
 use Rattle.trace.proofs.Checking.{sound-file}
 use Rattle.trace.proofs.Items.{items-from, length-from}
-use Rattle.lru.specs.Lru.{Outcome, step, _then_, replay, words}
+use Rattle.lru.specs.Lru.{replay, words}
 use Rattle.lru.specs.Tally.{nothing, tally, perMillion}
-use Rattle.lru.specs.Replay.{replayVerdict, replayOf, summaryOf, replayAnswer, cacheAfter, eventsAfter}
+use Rattle.replays.specs.Replay.{replayVerdict, replayOf, summaryOf, replayAnswer, cacheAfter, eventsAfter}
 use Rattle.lru.specs.Passes.{CanRun, Ran}
-use Rattle.lru.specs.declared.Tally.{Tally}
 use Rattle.lru.specs.declared.Finish.{Finish}
-use Rattle.lru.specs.declared.Summary.{Summary}
-use Rattle.lru.specs.declared.Replayed.the-variants.{Done, Refused}
+use Rattle.replays.specs.declared.Summary.{Summary}
+use Rattle.replays.specs.declared.Replayed.the-variants.{Done, Refused}
 use Rattle.lru.proofs.Counting.{tally-counts, fetches-few}
-use Rattle.lru.proofs.Judging.{Playable, sound-playable}
-use Rattle.lru.proofs.Room.{starts-fine}
+use Rattle.replays.proofs.Judging.{Playable, sound-playable}
+use Rattle.replays.proofs.Fine.{starts-fine}
 
 module _ (f : List ℕ) (K : ℕ) (cache : List ℕ) (resident : ℕ) (events : List ℕ) {v : Verdict} (e : v ≡ replayVerdict f K cache resident (length events)) where
   -- ---- a refusal is told, and changes nothing
