@@ -13,7 +13,7 @@ use Rattle.pages.specs.Pages.{has, remove}
 use Rattle.pages.proofs.Choice.{split}
 use Rattle.pages.proofs.Pages.{length-move, has-init, length-init, remove-absent}
 use Rattle.recency.specs.Linked.{lastFrom}
-use Rattle.recency.specs.Held.{residents, Holds, CanUse, CanEvict, Gone}
+use Rattle.recency.specs.Held.{residents, Holds, CanUse, Gone}
 use Rattle.recency.specs.declared.Queue.{Queue}
 use Rattle.recency.specs.declared.Evicted.{Evicted}
 use Rattle.recency.proofs.Appending.{has-held, length-held, gone-held, last-later}
@@ -59,9 +59,6 @@ module _ {K : ℕ} {log stale : List ℕ} {q : Queue} (can : CanMake K log stale
     made-room h = record { found = λ f. absurd (omega arith); room = λ m r. (refl, refl); full = λ m r. absurd (omega arith) }
 
     module _ (h : K ≤ q .resident) where
-      pub make-evict : CanEvict log stale q
-      make-evict = record { logged = can .logged; some = omega (arith, can .some) }
-
       pub made-full : {r : Evicted} → Gone log stale q r → Made K e log stale q r
       made-full g = record { found = λ f. absurd (omega arith); room = λ m r. absurd (omega arith); full = λ m r. g }
 

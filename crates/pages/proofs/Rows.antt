@@ -6,8 +6,8 @@ use mathlib.Core.List.{List, [], _∷_, _++_, append-assoc, append-nil}
 use native.Mathlib.Nat.{add-zero, zero-add, suc-add, add-suc}
 use native.Mathlib.Numerals.{add-one}
 use native.Mathlib.Omega.{arith}
-use lib.ListN.{length, getD, take, drop, set, length-append, length-drop, take-append-drop, drop-of-length-le}
-use lib.Seq.{drop-cons, take-suc, take-suc-set, append-snoc, take-append-seam, drop-append-add, drop-drop, take-set-le, take-set-lt, drop-set-lt, drop-set-add, sets, sets-eq}
+use lib.ListN.{length, getD, take, drop, set, length-append, length-drop, take-append-drop}
+use lib.Seq.{drop-cons, take-suc, take-suc-set, append-snoc, take-append-seam, take-set-le, take-set-lt, drop-set-lt, drop-set-add, sets, sets-eq}
 use borrow.Rule.Slice.PartMut.{midOf, putMid}
 use Rattle.pages.specs.Rows.{All, consIf, flat, over}
 
@@ -62,13 +62,6 @@ module _ {A : Type 0} where
   unfolding over
   sets-over s d h = sets-eq s d 0 (omega arith) ∙ rw zero-add
 
-  pub over-over : (s t d : List A) → length s ≤ length t → over t (over s d) ≡ over t d
-  unfolding over
-  over-over s t d h =
-      let k = length t - length s in
-      let e : length t ≡ length s + k = omega arith in
-      rw (e, drop-append-add, drop-drop)
-
   -- A row written over the front, and another behind it.
   pub over-more : (w v d : List A) → length w + length v ≤ length d → sets (over w d) (length w) v ≡ over (w ++ v) d
   over-more w v d h = rw (← sets-over w d (omega arith), ← sets-over (w ++ v) d (rw length-append h), sets-append d 0 w v, zero-add)
@@ -76,10 +69,6 @@ module _ {A : Type 0} where
   pub length-over : (s d : List A) → length s ≤ length d → length (over s d) ≡ length d
   unfolding over
   length-over s d h = simp (length-append, length-drop) (omega arith)
-
-  pub over-whole : (s d : List A) → length d ≤ length s → over s d ≡ s
-  unfolding over
-  over-whole s d h = rw (drop-of-length-le d h, append-nil)
 
   pub take-over : (s d : List A) → take (length s) (over s d) ≡ s
   unfolding over

@@ -4,7 +4,7 @@ use mathlib.Core.Path.{_≡_, refl}
 use mathlib.Core.Bool.{true}
 use mathlib.Core.List.{[], _∷_}
 use Rattle.pages.specs.Rows.{over}
-use Rattle.pages.specs.Pages.{has, remove, add, place, front, without}
+use Rattle.pages.specs.Pages.{has, remove, add, place, without}
 
 has-example : has 5 (7 ∷ 5 ∷ []) ≡ true
 unfolding has
@@ -21,10 +21,6 @@ add-example = refl
 place-example : place 9 (7 ∷ 5 ∷ 9 ∷ []) ≡ 2
 unfolding place
 place-example = refl
-
-front-example : front 4 1 (7 ∷ 5 ∷ 9 ∷ []) ≡ 4 ∷ 7 ∷ 9 ∷ []
-unfolding front
-front-example = refl
 
 over-example : over {A = ℕ} (1 ∷ 2 ∷ []) (7 ∷ 5 ∷ 9 ∷ []) ≡ 1 ∷ 2 ∷ 9 ∷ []
 unfolding over

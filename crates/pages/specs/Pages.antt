@@ -1,9 +1,8 @@
--- Lists of pages, where a page is a number: which pages are in one, and one with pages put in, taken out or moved to the front. Assumes nothing.
+-- Lists of pages, where a page is a number: which pages are in one, and one with pages put in or taken out. Assumes nothing.
 use Prim.Native.Nat.{ℕ, suc}
 use mathlib.Core.Path.{_≡_}
 use mathlib.Core.Bool.{Bool, false, cond, not, _||_}
 use mathlib.Core.List.{List, [], _∷_, _++_}
-use lib.ListN.{take, drop}
 use lib.Dec.{eqb}
 use Rattle.pages.specs.Rows.{consIf}
 
@@ -25,10 +24,6 @@ add p l = cond (has p l) l (l ++ (p ∷ []))
 unfoldable pub place : ℕ → List ℕ → ℕ
 place p [] = 0
 place p (q ∷ l) = cond (eqb p q) 0 (suc (place p l))
-
--- A list with its place j taken out and the page x put in front.
-unfoldable pub front : ℕ → ℕ → List ℕ → List ℕ
-front x j l = x ∷ (take j l ++ drop (suc j) l)
 
 -- The pages of l that are not in F, in l's order.
 unfoldable pub without : List ℕ → List ℕ → List ℕ

@@ -13,7 +13,7 @@ use Rattle.pages.specs.Pages.{has, Distinct}
 use Rattle.pages.proofs.Added.{distinct-reverse}
 use Rattle.pages.proofs.Rows.{take-over, length-over}
 use Rattle.recency.specs.Order.{lasts, order}
-use Rattle.recency.specs.Held.{part, residents, Holds, CanIndex, Indexed, Packed, CanShorten, Shortened, CanLoad}
+use Rattle.recency.specs.Held.{part, residents, Holds, CanIndex, Indexed, Shortened, CanLoad}
 use Rattle.recency.specs.declared.Queue.{Queue}
 use Rattle.recency.proofs.Order.{order-distinct, distinct-lasts, length-order}
 
@@ -52,20 +52,6 @@ module _ {log next stale heads : List ℕ} {n : ℕ} (i : Indexed log next stale
   }
 
 -- ---- a log made short
-
-module _ {log next stale heads : List ℕ} {low end : ℕ} (can : CanShorten log next stale heads low end) {log′ : List ℕ} {n : ℕ} (p : Packed log low end log′ n)
-    (same : length log′ ≡ length log) where
-  pub shorten-index : CanIndex log′ next stale heads n
-  shorten-index = record {
-    within = p .within;
-    small = omega (arith, can .linked .small);
-    next-long = omega (arith, can .linked .next-long);
-    stale-long = omega (arith, can .pack .stale-long);
-    heads-long = can .linked .heads-long;
-  }
-
-  pub shortened : {next′ stale′ heads′ : List ℕ} → Indexed log′ next′ stale′ heads′ n → Shortened log low end log′ next′ stale′ heads′ n
-  shortened i = record { packed = p; indexed = i }
 
 -- It holds the pages that it held.
 module _ {log : List ℕ} {low end : ℕ} {log′ next′ stale′ heads′ : List ℕ} {n : ℕ} (s : Shortened log low end log′ next′ stale′ heads′ n) where

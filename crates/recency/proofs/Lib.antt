@@ -1,3 +1,4 @@
+pub mod Once
 pub mod Order
 pub mod Linking
 pub mod Counting

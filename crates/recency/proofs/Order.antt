@@ -58,11 +58,6 @@ pub order-distinct : (l : List ℕ) → Distinct l → order l ≡ reverse l
 unfolding order
 order-distinct l d = rw (lasts-distinct l d)
 
--- The last places alone have the log's order.
-pub order-lasts : (l : List ℕ) → order (lasts l) ≡ order l
-unfolding order
-order-lasts l = rw (lasts-distinct (lasts l) (distinct-lasts l))
-
 pub length-order : (l : List ℕ) → length (order l) ≡ length (lasts l)
 unfolding order
 length-order l = length-reverse (lasts l)

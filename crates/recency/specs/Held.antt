@@ -45,7 +45,7 @@ pub record Holds (s log next stale heads : List ℕ) (q : Queue) : Type 0 where
 
 -- ---- the log made short
 
--- The rows have room for a log, of which the first n places are of distinct pages.
+-- The rows have room for a log, of which the first n places are to be chained.
 pub record CanIndex (log next stale heads : List ℕ) (n : ℕ) : Type 0 where
   pub within : n ≤ length log
   pub small : length log ≤ 65535

@@ -1,3 +1,4 @@
 pub mod Order
 pub mod Linked
 pub mod Held
+pub mod Examples

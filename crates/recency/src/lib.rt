@@ -58,7 +58,7 @@ pub fn find(log: &[u64], next: &[u16], heads: &[u16], low: usize, end: usize, pa
     0
 }
 
-// The first n places, all of distinct pages, are chained, and none is stale.
+// The first n places are chained, and none is marked as stale.
 fn index(log: &[u64], next: &mut [u16], stale: &mut [u8], heads: &mut [u16], n: usize)
     requires { ⌜ CanIndex (now log) (now next) (now stale) (now heads) n ⌝ }
     ensures { λ _. ⌜ Indexed (now (log .entry)) (now (next .exit)) (now (stale .exit)) (now (heads .exit)) n ⌝ }

@@ -9,8 +9,8 @@ mod joins;
 mod noise;
 mod programs;
 mod reductions;
-mod replays;
 mod row;
+mod runs;
 mod table;
 mod tell;
 

@@ -6,8 +6,8 @@ use super::faults;
 use super::joins;
 use super::programs;
 use super::reductions;
-use super::replays;
 use super::row;
+use super::runs;
 use super::tell;
 use super::tell::Tally;
 
@@ -18,7 +18,7 @@ fn tried(t: Tally, form: u8, name: &[u8], f: File, n: [u64; 48]) -> Tally {
         b'x' => faults::tried(t, name, n),
         b'r' => reductions::tried(t, name, f, n),
         b'j' => joins::tried(t, name, n),
-        b'p' => replays::tried(t, name, f, n),
+        b'p' => runs::tried(t, name, f, n),
         b'l' => programs::replayed(t, name, f, n),
         b'd' => programs::refused(t, name, f, n),
         b'w' => programs::written(t, name, f, n),
