@@ -20,7 +20,7 @@ last-of-two = refl
 heads-grow : headsWith 10 3 1 (headsWith 10 2 2 (headsWith 10 1 0 (headsWith 10 0 2 (7 ∷ 0 ∷ 10 ∷ 9 ∷ [])))) ≡ 12 ∷ 14 ∷ 13 ∷ 9 ∷ []
 heads-grow = refl
 
--- The fifth is put in front of the third in bucket 2, and its link says so: 3, which is 13 above base 10.
+-- The fifth is put in front of the third in bucket 2, and its link says so: 3, which is 13 less the base 10.
 link-of-fifth : nextWith 10 4 2 (12 ∷ 14 ∷ 13 ∷ 9 ∷ []) (0 ∷ 0 ∷ 1 ∷ 0 ∷ 6 ∷ []) ≡ 0 ∷ 0 ∷ 1 ∷ 0 ∷ 3 ∷ []
 link-of-fifth = refl
 
