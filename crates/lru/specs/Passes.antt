@@ -69,7 +69,7 @@ pub record Turned (o : Outcome) (c : Tally) (K : ℕ) (events : List ℕ) (r : P
   pub events-are : events′ ≡ over (words (o .events)) events
   pub tally-is : r .tally ≡ c
 
--- The replay of the first n items of a file, from a list of pages, does.
+-- So does that of the replay of the first n items of a file, from a list of pages.
 abbrev pub Plays : List ℕ → ℕ → ℕ → List ℕ → List ℕ → Played → List ℕ → List ℕ → List ℕ → List ℕ → List ℕ → Type 0
 Plays file n K s events =
     let u = itemsFrom file 0 n in

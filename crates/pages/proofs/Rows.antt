@@ -20,12 +20,9 @@ module _ {A : Type 0} where
   pub take-next : (l : List A) (i : ℕ) (d : A) → i < length l → take (i + 1) l ≡ take i l ++ (getD l i d ∷ [])
   take-next l i d h = rw add-one (take-suc l i d h)
 
-  -- A store where what is done ends: what is done is longer by it, and what is left has its first taken.
+  -- A store where what is done ends: what is done is longer by it.
   pub store-done : (l : List A) (i : ℕ) (a : A) (r : List A) → i < length l → take (i + 1) (set l i a) ++ r ≡ take i l ++ a ∷ r
   store-done l i a r h = rw (add-one, take-suc-set l i a h) (append-snoc (take i l) a r)
-
-  pub store-left : (l : List A) (i : ℕ) (a : A) → drop (i + 1) (set l i a) ≡ drop (i + 1) l
-  store-left l i a = drop-set-lt (i + 1) l i a (omega arith)
 
   -- ---- a run of stores
 

@@ -208,7 +208,7 @@ module _ {log next stale heads : List ℕ} {q : Queue} {page e : ℕ} (can : Can
         (λ t. t)
 
   -- It can be marked,
-  pub use-mark : CanMark stale (q .low) e (q .resident)
+  pub use-mark : CanMark stale e (q .resident)
   use-mark = record {
     within = split (ltb (q .low) e)
         (λ t. omega (arith, place-of (ltb-true (q .low) e t) .1, can .held .room, can .held .logged .stale-long))

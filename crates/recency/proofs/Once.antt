@@ -1,4 +1,4 @@
--- Each public function's contract allows one answer: `find` one place, `evict` one page, `save` one content of the list. Of the rows that hold a cache it fixes the pages that they hold. Assumes nothing.
+-- What the contracts of the public functions determine: `find` one place, `save` one content of the list, `evict` one page; of rows that hold a cache, the pages that they hold. Assumes nothing.
 use Prim.Native.Nat.{ℕ}
 use mathlib.Core.Path.{_≡_, sym, ap, _∙_}
 use mathlib.Core.List.{List}

@@ -17,7 +17,7 @@ in-order : order (5 ∷ 7 ∷ 5 ∷ 9 ∷ []) ≡ 9 ∷ 5 ∷ 7 ∷ []
 unfolding order lasts has
 in-order = refl
 
--- Of a log with room for six pages the places from 1 up to 5 are in use: page 3 was evicted, and 7 and 8 are stale.
+-- Of a log with room for six pages the places from 1 up to 5 are in use: page 3 was evicted, and places 1 and 2 are stale.
 held : residents (3 ∷ 7 ∷ 8 ∷ 8 ∷ 7 ∷ 0 ∷ []) (record { resident = 2; low = 1; now = 5 }) ≡ 7 ∷ 8 ∷ []
 unfolding residents order lasts has
 held = refl

@@ -93,7 +93,7 @@ pub record CanAppend (log next stale heads : List ℕ) (q : Queue) (m page : ℕ
   pub few : m < length log
 
 -- The place where a page stood last can be marked, and the pages counted.
-pub record CanMark (stale : List ℕ) (low e m : ℕ) : Type 0 where
+pub record CanMark (stale : List ℕ) (e m : ℕ) : Type 0 where
   pub within : e ≤ length stale
   pub small : m < 65535
 

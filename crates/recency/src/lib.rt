@@ -8,7 +8,7 @@ ghost use Rattle.pages.specs.Pages.{remove};
 ghost use Rattle.recency.specs.Linked.{buckets, bucketOf, Linked, lastFrom, CanLink};
 ghost use Rattle.recency.specs.Held.{residents, Holds, CanIndex, Indexed, CanPack, Packed, CanShorten, Shortened, CanAppend, CanMark, countWith, staleWith, CanUse, CanEvict, Gone, CanLoad, CanSave};
 
-// How many places a log has: twice the largest cache, so that it is packed at most once in as many uses as a cache has pages.
+// How many places a log has. It is packed when all are used, so there should be far more than pages.
 pub const PLACES: usize = 8192;
 
 // How many heads there are.
@@ -72,7 +72,7 @@ fn index(log: &[u64], next: &mut [u16], stale: &mut [u8], heads: &mut [u16], n: 
     }
 }
 
-// The places from `low` up to `end` that are not stale, moved to the front.
+// The places from `low` up to `end` that are not stale, moved to the front. Answers how many there are.
 fn pack(log: &mut [u64], stale: &[u8], low: usize, end: usize) -> usize
     requires { ⌜ CanPack (now log) (now stale) low end ⌝ }
     ensures { λ r. ⌜ Packed (now (log .entry)) low end (now (log .exit)) r ⌝ }
@@ -143,7 +143,7 @@ fn append(
 
 // The place where a page stood last, e counted from 1, is stale once the page is used again. Answers how many pages are resident then: one more where it comes in.
 fn mark(stale: &mut [u8], low: usize, e: usize, m: usize) -> usize
-    requires { ⌜ CanMark (now stale) low e m ⌝ }
+    requires { ⌜ CanMark (now stale) e m ⌝ }
     ensures { λ r. ⌜ r ≡ countWith low e m ⌝ }
     ensures { λ _. ⌜ now (stale .exit) ≡ staleWith low e (now (stale .entry)) ⌝ }
 {
@@ -195,7 +195,7 @@ pub fn evict(log: &[u64], stale: &[u8], q: Queue) -> Evicted
     Evicted { queue: q, page: 0 }
 }
 
-// A list is put in front of a log, the last page first.
+// A list is written over the front of a log, the last page first.
 fn copy_back(list: &[u64], log: &mut [u64])
     requires { ⌜ length (now list) ≤ length (now log) ⌝ }
     ensures { λ _. ⌜ now (log .exit) ≡ over (reverse (now (list .entry))) (now (log .entry)) ⌝ }

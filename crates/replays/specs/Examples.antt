@@ -2,7 +2,6 @@
 use Prim.Native.Nat.{ℕ}
 use mathlib.Core.Path.{_≡_, refl}
 use mathlib.Core.List.{List, [], _∷_}
-use mathlib.Core.Option.{some}
 use lib.ListN.{take}
 use Rattle.pages.specs.Rows.{over}
 use Rattle.pages.specs.Pages.{has, remove}
@@ -15,7 +14,7 @@ use Rattle.trace.specs.Verdict as verdicts
 use Rattle.trace.specs.Check.{isField, itemsVerdict, verdict}
 use Rattle.trace.specs.Examples.{_at_, T, fileT}
 use Rattle.lru.specs.Lru.{hit, fetch, step, _then_, replay}
-use Rattle.lru.specs.Tally.{nothing, isFetch, isEviction, tallied, tally, perMillion}
+use Rattle.lru.specs.Tally.{isFetch, isEviction, tallied, tally, perMillion}
 use Rattle.replays.specs.Replay.{twice, badStart, replayVerdict, replayOf, summaryOf, replayAnswer, cacheAfter}
 use Rattle.replays.specs.declared.Replayed.the-variants.{Done, Refused}
 

@@ -138,7 +138,7 @@ fn replay_sound(
     }
 }
 
-// The same, in rows that are lent.
+// `replay`, in rows that are lent.
 fn replay_in(
     file: &[u8],
     k: u64,

@@ -131,8 +131,8 @@ mod tests {
     }
 
     /// The first row is computed in `crates/filter/specs/Examples.antt`
-    /// (`buckets-of`) from the proved filter's own definition. The second is to
-    /// be computed in `crates/recency/specs/Examples.antt`, under the same name,
+    /// (`buckets-of`) from the proved filter's own definition. The second is
+    /// computed in `crates/recency/specs/Examples.antt`, under the same name,
     /// from that of the replay's log. Should a definition change, the formula
     /// here has to follow: pages of one bucket here would not be of one bucket
     /// there, and no hostile trace would be hostile any more.

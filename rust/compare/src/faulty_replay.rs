@@ -53,8 +53,8 @@ impl Library for FaultyReplay {
 
 impl FaultyReplay {
     /// The log of a start, if nothing is refused. All refusals are the
-    /// reference's but that of a page that comes twice in a start, which is
-    /// found by the log: the reference is asked without a start.
+    /// reference's but those of the start's pages, of which that of a page that
+    /// comes twice is found by the log: the reference is asked without a start.
     fn admit(
         &self,
         file: &[u8],

@@ -1,4 +1,5 @@
-//! What can be wrong with a log of pages: slips that are easily made.
+//! What can be wrong with a log of pages: slips that are easily made, and two
+//! changes that do no harm.
 
 #[derive(Clone, Copy, Debug, PartialEq, Eq)]
 pub enum RecencyFault {
@@ -37,8 +38,8 @@ pub enum RecencyFault {
     SearchGoesOneTooFar,
     /// The first place of the window is not looked at.
     SearchStopsOneTooEarly,
-    /// A page is not found where more than so many places of its bucket came
-    /// after its last.
+    /// A page is not found where 64 places of its bucket, or more, came after
+    /// its last.
     SearchCutsTheChain,
     /// Takes the last page of a bucket for the one that is looked for.
     SearchTrustsTheBucket,

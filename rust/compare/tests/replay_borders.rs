@@ -64,9 +64,10 @@ fn lengths() {
     assert_eq!(judge.seen.taken, 7 * 3 * 2 * 15);
 }
 
-/// Hits, and one eviction that is up to eight items before or after a packing.
+/// Hits, and one strange page up to eight items before or after a packing. It
+/// evicts one, which in a small cache comes again soon and evicts another.
 #[test]
-fn one_eviction_around_a_packing() {
+fn evictions_around_a_packing() {
     let mut random = Random::new(Random::seed() ^ 33);
     let mut judge = Judge::new(&Proved, &Reference);
     for size in SIZES {
@@ -84,7 +85,7 @@ fn one_eviction_around_a_packing() {
             judge.insist(&plan.case(&mut random));
         }
     }
-    say_seen("replays, one eviction", Random::seed(), &judge.seen);
+    say_seen("replays, evictions around a packing", Random::seed(), &judge.seen);
     assert_eq!(judge.seen.taken, 7 * 16);
 }
 

@@ -35,7 +35,8 @@ fn after(start: &[u64], strange: [u64; 2]) -> Vec<u64> {
     known.chain(strange).chain(start.last().copied()).collect()
 }
 
-/// In a cache that is full, in one with room for one more, and in the largest.
+/// By turns in a cache that is full, in one with room for one more, and in the
+/// largest.
 #[test]
 fn every_length() {
     let mut random = Random::new(Random::seed() ^ 36);
@@ -132,7 +133,7 @@ fn what_is_not_resident_is_not_looked_at() {
     assert_eq!(judge.seen.taken, judge.seen.cases);
 }
 
-/// One page more than the cache holds, whether the buffer has it or not.
+/// Pages more than the cache holds, whether the buffer has them or not.
 #[test]
 fn more_than_the_cache_holds() {
     let mut random = Random::new(Random::seed() ^ 40);

@@ -1,5 +1,6 @@
-//! The programs `reduce` and `replay` do what the library does, and the stack
-//! that they take is measured where they run without an emulator.
+//! The programs `reduce` and `replay` do their work (of `replay` the number of
+//! lines is looked at), and the stack that they take is measured where they run
+//! without an emulator.
 
 use compare::report::say;
 use stack::inputs::for_programs;
