@@ -85,7 +85,11 @@ fn evictions_around_a_packing() {
             judge.insist(&plan.case(&mut random));
         }
     }
-    say_seen("replays, evictions around a packing", Random::seed(), &judge.seen);
+    say_seen(
+        "replays, evictions around a packing",
+        Random::seed(),
+        &judge.seen,
+    );
     assert_eq!(judge.seen.taken, 7 * 16);
 }
 
