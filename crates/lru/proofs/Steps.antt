@@ -98,7 +98,8 @@ module _ {K f : ℕ} {log next stale heads : List ℕ} {q : Queue} {events : Lis
 
   module _ {log′ next′ stale′ heads′ : List ℕ} {v : Queue} (u : Holds (x .page ∷ remove (x .page) (residents log (g .queue))) log′ next′ stale′ heads′ v) where
     -- It was found.
-    pub stepped-hit : q .low < e → Stepped (step K (residents log q) x) K f events (record { queue = v; fetched = false; evicted = false }) log′ next′ stale′ heads′ events
+    pub stepped-hit : q .low < e
+        → Stepped (step K (residents log q) x) K f events (record { queue = v; fetched = false; evicted = false }) log′ next′ stale′ heads′ events
     unfolding words isFetch isEviction
     stepped-hit h =
         let t : has (x .page) (residents log q) ≡ true = has-held (can .ready .held) (x .page) k ∙ lt-ltb (q .low) e h in
@@ -114,7 +115,8 @@ module _ {K f : ℕ} {log next stale heads : List ℕ} {q : Queue} {events : Lis
 
     -- It came in.
     module _ (m : e ≤ q .low) {events′ : List ℕ} (t : events′ ≡ sets events (3 * f) (x .time ∷ x .page ∷ g .page ∷ [])) where
-      came-room : q .resident < K → Stepped (step K (residents log q) x) K f events (record { queue = v; fetched = true; evicted = false }) log′ next′ stale′ heads′ events′
+      came-room : q .resident < K
+          → Stepped (step K (residents log q) x) K f events (record { queue = v; fetched = true; evicted = false }) log′ next′ stale′ heads′ events′
       unfolding words word isFetch isEviction
       came-room h =
           let r = made .room m h in
@@ -122,7 +124,8 @@ module _ {K f : ℕ} {log next stale heads : List ℕ} {q : Queue} {events : Lis
           rw (step-room K x (residents log q) (away m) (omega (arith, count)))
           (record { holds = w; within = omega (arith, holds-count w, count); events-are = rw (r .1) at t; fetched-is = refl; evicted-is = refl })
 
-      came-full : K ≤ q .resident → Stepped (step K (residents log q) x) K f events (record { queue = v; fetched = true; evicted = true }) log′ next′ stale′ heads′ events′
+      came-full : K ≤ q .resident
+          → Stepped (step K (residents log q) x) K f events (record { queue = v; fetched = true; evicted = true }) log′ next′ stale′ heads′ events′
       unfolding words word isFetch isEviction
       came-full h =
           let gone = made .full m h in

@@ -46,7 +46,8 @@ turned-then {o} {p} {r = r} {events = events} d s f l =
 -- ---- the loop
 
 -- A replay of n items of the file f, from the cache that the rows held, has done i: the tally is t.
-pub record Running (f : List ℕ) (n K : ℕ) (log₀ next₀ stale₀ heads₀ : List ℕ) (q₀ : Queue) (events₀ log next stale heads events : List ℕ) (t : Tally) (q : Queue) (i : ℕ) : Type 0 where
+pub record Running (f : List ℕ) (n K : ℕ) (log₀ next₀ stale₀ heads₀ : List ℕ) (q₀ : Queue)
+    (events₀ log next stale heads events : List ℕ) (t : Tally) (q : Queue) (i : ℕ) : Type 0 where
   pub within : i ≤ n
   pub done : Plays f i K (residents log₀ q₀) events₀ (record { tally = t; queue = q }) log next stale heads events
   pub items-are : t .items ≡ i
@@ -81,8 +82,10 @@ running-none can =
       events-long = refl;
     }
 
-module _ {f : List ℕ} {n K : ℕ} {log₀ next₀ stale₀ heads₀ : List ℕ} {q₀ : Queue} {events₀ log next stale heads events : List ℕ} {t : Tally} {q : Queue} {i : ℕ}
-    (r : Running f n K log₀ next₀ stale₀ heads₀ q₀ events₀ log next stale heads events t q i) (can : CanPlay f n K log₀ next₀ stale₀ heads₀ q₀ events₀) where
+module _ {f : List ℕ} {n K : ℕ} {log₀ next₀ stale₀ heads₀ : List ℕ} {q₀ : Queue}
+    {events₀ log next stale heads events : List ℕ} {t : Tally} {q : Queue} {i : ℕ}
+    (r : Running f n K log₀ next₀ stale₀ heads₀ q₀ events₀ log next stale heads events t q i)
+    (can : CanPlay f n K log₀ next₀ stale₀ heads₀ q₀ events₀) where
   -- An item can be taken.
   pub running-step : i < n → CanStep K (t .fetches) log next stale heads q events
   running-step h = record {
@@ -102,7 +105,8 @@ module _ {f : List ℕ} {n K : ℕ} {log₀ next₀ stale₀ heads₀ : List ℕ
   -- One item more is done.
   pub running-more : {x : Item} {e : Effect} {t′ : Tally} {log′ next′ stale′ heads′ events′ : List ℕ} → i < n → x ≡ itemAt f i
       → Stepped (step K (residents log q) x) K (t .fetches) events e log′ next′ stale′ heads′ events′ → t′ ≡ countedOf t (e .fetched) (e .evicted)
-      → length log′ ≡ length log → length next′ ≡ length next → length stale′ ≡ length stale → length heads′ ≡ length heads → length events′ ≡ length events
+      → length log′ ≡ length log → length next′ ≡ length next → length stale′ ≡ length stale
+      → length heads′ ≡ length heads → length events′ ≡ length events
       → Running f n K log₀ next₀ stale₀ heads₀ q₀ events₀ log′ next′ stale′ heads′ events′ t′ (e .queue) (i + 1)
   running-more {x} {e} {t′} {log′} {next′} {stale′} {heads′} {events′} h y g w a b c d z =
       let s = residents log₀ q₀ in

@@ -217,7 +217,8 @@ module _ {log next stale heads : List ℕ} {q : Queue} {page e : ℕ} (can : Can
   }
 
   -- and then appended.
-  pub use-append : {stale′ : List ℕ} {m : ℕ} → stale′ ≡ staleWith (q .low) e stale → m ≡ countWith (q .low) e (q .resident) → CanAppend log next stale′ heads q m page
+  pub use-append : {stale′ : List ℕ} {m : ℕ} → stale′ ≡ staleWith (q .low) e stale → m ≡ countWith (q .low) e (q .resident)
+      → CanAppend log next stale′ heads q m page
   unfolding staleWith countWith
   use-append a b =
       let h = can .held in
