@@ -5,7 +5,7 @@ use mathlib.Core.List.{List, [], _∷_}
 use lib.ListN.{length, drop}
 use lib.Dec.{ltb, eqb}
 use Rattle.trace.specs.Bytes.{numberAt}
-use Rattle.trace.specs.Layout.{header, item}
+use Rattle.trace.specs.Layout.{tagOf, header, item}
 use Rattle.trace.specs.Rules.{allowed, reserved}
 use Rattle.trace.specs.Refusals.{row}
 use Rattle.trace.specs.Verdict.{Test, _⇒_, first, _then_}
@@ -19,6 +19,10 @@ use Rattle.trace.specs.declared.Checked.the-variants.{Accepted, Refused}
 -- At place `at` of s stands a field with this tag and this length.
 unfoldable pub isField : ℕ → ℕ → List ℕ → ℕ → Bool
 isField tag len s at = eqb (numberAt s at 1) tag && eqb (numberAt s (at + 1) 2) len
+
+-- At the front of s stands an item's field: its tag is that of a write or that of any other item, and nothing else.
+unfoldable pub isItem : List ℕ → Bool
+isItem s = isField (tagOf (item s .written)) 16 s 0
 
 -- 1: "fewer than 23 bytes, or a header field has a wrong tag or length";
 -- 2: "a header value breaks the rules above, items over 1,000,000 included"; 3: "the length isn't 23 + 19 × items".
@@ -37,7 +41,7 @@ headerTests f =
 -- The bytes of item i stand at the front of s, and the item before it was at time `before`.
 abbrev pub itemTests : ℕ → ℕ → List ℕ → List Test
 itemTests before i s =
-    not (isField 5 16 s 0) ⇒ BadField i
+    not (isItem s) ⇒ BadField i
     ∷ eqb (item s .page) reserved ⇒ ReservedPage i
     ∷ ltb (item s .time) before ⇒ TimeFalls i
     ∷ []

@@ -1,11 +1,12 @@
 -- What is promised of the file format, over the definitions that the contracts cite. Assumes nothing.
 use Prim.Native.Nat.{ℕ, _+_, _*_, _<_}
 use mathlib.Core.Path.{_≡_}
+use mathlib.Core.Bool.{_||_}
 use mathlib.Core.List.{List}
 use lib.ListN.{length, getD}
 use Rattle.trace.specs.Layout.{encode, header, items, decode}
 use Rattle.trace.specs.Rules.{Allowed}
-use Rattle.trace.specs.Check.{checked}
+use Rattle.trace.specs.Check.{isField, isItem, checked}
 use Rattle.trace.specs.declared.Item.{Item}
 use Rattle.trace.specs.declared.Header.{Header}
 use Rattle.trace.specs.declared.Checked.the-variants.{Accepted}
@@ -18,6 +19,10 @@ AreBytes f = (i : ℕ) → getD f i 0 < 256
 pub record IsFile (f : List ℕ) : Type 0 where
   pub bytes : AreBytes f
   pub accepted : checked f ≡ Accepted (header f)
+
+-- Refusal 4 "now allows tags 5 and 6": a field of 16 bytes under one of these tags is an item's, and no other field is.
+abbrev pub TagsAre : Type 0
+TagsAre = (s : List ℕ) → isItem s ≡ isField 5 16 s 0 || isField 6 16 s 0
 
 -- "A written trace reads back as the items that went in": for every header and items that the rules allow.
 abbrev pub ReadsBack : Type 0
