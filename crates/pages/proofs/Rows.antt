@@ -6,7 +6,7 @@ use mathlib.Core.List.{List, [], _∷_, _++_, append-assoc, append-nil}
 use native.Mathlib.Nat.{add-zero, zero-add, suc-add, add-suc}
 use native.Mathlib.Numerals.{add-one}
 use native.Mathlib.Omega.{arith}
-use lib.ListN.{length, getD, take, drop, set, length-append, length-drop, take-append-drop}
+use lib.ListN.{length, getD, take, drop, set, length-append, length-drop, take-append-drop, drop-of-length-le}
 use lib.Seq.{drop-cons, take-suc, take-suc-set, append-snoc, take-append-seam, take-set-le, take-set-lt, drop-set-lt, drop-set-add, sets, sets-eq}
 use borrow.Rule.Slice.PartMut.{midOf, putMid}
 use Rattle.pages.specs.Rows.{All, consIf, flat, over}
@@ -66,6 +66,10 @@ module _ {A : Type 0} where
   pub length-over : (s d : List A) → length s ≤ length d → length (over s d) ≡ length d
   unfolding over
   length-over s d h = simp (length-append, length-drop) (omega arith)
+
+  pub over-whole : (s d : List A) → length d ≤ length s → over s d ≡ s
+  unfolding over
+  over-whole s d h = rw (drop-of-length-le d h, append-nil)
 
   pub take-over : (s d : List A) → take (length s) (over s d) ≡ s
   unfolding over
