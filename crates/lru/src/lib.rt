@@ -8,11 +8,12 @@ ghost use Prim.Native.Nat.{_+_, _*_, _≤_, _<_};
 ghost use lib.ListN.{length, take};
 ghost use lib.Seq.{sets};
 ghost use Rattle.limits.proofs.Numbers.{itemsMost};
-ghost use Rattle.recency.specs.Held.{residents};
+ghost use Rattle.frames.specs.Frames.{framesOf};
+ghost use Rattle.recency.specs.Held.{frames};
 ghost use Rattle.trace.specs.Layout.{itemsFrom};
 ghost use Rattle.lru.specs.Lru.{step as stepped, replay as lru};
 ghost use Rattle.lru.specs.Tally.{oneOf, nothing, countedOf, HasRoom, tally as tallyOf, perMillion};
-ghost use Rattle.lru.specs.Passes.{CanMake, Made, CanStep, Stepped, CanPlay, Plays, CanRun, Rows, Ran};
+ghost use Rattle.lru.specs.Passes.{CanMake, Made, costOf, CanStep, Stepped, CanPlay, Plays, CanRun, Rows, Ran};
 
 // How many items there were, and how many of them were fetches and evictions.
 pub struct Tally {
@@ -80,14 +81,28 @@ fn count_one(mut t: Tally, fetched: bool, evicted: bool) -> Tally
     t
 }
 
-// Three numbers from place `at` on.
-fn put(events: &mut [u64], at: usize, a: u64, b: u64, c: u64)
-    requires { ⌜ at + 3 ≤ length (now events) ⌝ }
-    ensures { λ _. ⌜ now (events .exit) ≡ sets (now (events .entry)) at (a ∷ b ∷ c ∷ []) ⌝ }
+// Four numbers from place `at` on.
+fn put(events: &mut [u64], at: usize, a: u64, b: u64, c: u64, d: u64)
+    requires { ⌜ at + 4 ≤ length (now events) ⌝ }
+    ensures { λ _. ⌜ now (events .exit) ≡ sets (now (events .entry)) at (a ∷ b ∷ c ∷ d ∷ []) ⌝ }
 {
     events[at] = a;
     events[at + 1] = b;
     events[at + 2] = c;
+    events[at + 3] = d;
+}
+
+// The fourth number of a fetch: 0 where nothing was evicted, 1 for a clean page, 2 for a written one.
+fn cost(evicted: bool, written: bool) -> u64
+    ensures { λ r. ⌜ r ≡ costOf evicted written ⌝ }
+{
+    if evicted {
+        if written {
+            return 2;
+        }
+        return 1;
+    }
+    0
 }
 
 // Room for a page whose last place is e counted from 1: a page that comes in where there is none makes the last one go, which is told.
@@ -99,12 +114,14 @@ fn make_room(log: &[u64], stale: &[u8], q: Queue, k: usize, e: usize) -> Evicted
         return Evicted {
             queue: q,
             page: Item::RESERVED,
+            written: false,
         };
     }
     if q.resident < k {
         return Evicted {
             queue: q,
             page: Item::RESERVED,
+            written: false,
         };
     }
     recency::evict(log, stale, q)
@@ -123,13 +140,14 @@ fn step(
     f: usize,
 ) -> Effect
     requires { ⌜ CanStep k f (now log) (now next) (now stale) (now heads) q (now events) ⌝ }
-    ensures { λ r. ⌜ Stepped (stepped k (residents (now (log .entry)) q) x) k f (now (events .entry)) r (now (log .exit)) (now (next .exit)) (now (stale .exit)) (now (heads .exit)) (now (events .exit)) ⌝ }
+    ensures { λ r. ⌜ Stepped (stepped k (frames (now (log .entry)) (now (stale .entry)) q) x) k f (now (events .entry)) r
+        (now (log .exit)) (now (next .exit)) (now (stale .exit)) (now (heads .exit)) (now (events .exit)) ⌝ }
 {
-    let at = 3 * f;
+    let at = 4 * f;
     let e = recency::find(log, next, heads, q.low, q.now, x.page);
     let g = make_room(log, stale, q, k, e);
     let room = g.queue;
-    let v = recency::used(log, next, stale, heads, room, x.page, e);
+    let v = recency::used(log, next, stale, heads, room, x.page, x.written, e);
     if q.low < e {
         return Effect {
             queue: v,
@@ -137,11 +155,13 @@ fn step(
             evicted: false,
         };
     }
-    put(events, at, x.time, x.page, g.page);
+    let full = k <= q.resident;
+    let c = cost(full, g.written);
+    put(events, at, x.time, x.page, g.page, c);
     Effect {
         queue: v,
         fetched: true,
-        evicted: k <= q.resident,
+        evicted: full,
     }
 }
 
@@ -158,7 +178,8 @@ fn play(
     events: &mut [u64],
 ) -> Played
     requires { ⌜ CanPlay (now file) n k (now log) (now next) (now stale) (now heads) start (now events) ⌝ }
-    ensures { λ r. ⌜ Plays (now (file .entry)) n k (residents (now (log .entry)) start) (now (events .entry)) r (now (log .exit)) (now (next .exit)) (now (stale .exit)) (now (heads .exit)) (now (events .exit)) ⌝ }
+    ensures { λ r. ⌜ Plays (now (file .entry)) n k (frames (now (log .entry)) (now (stale .entry)) start) (now (events .entry)) r
+        (now (log .exit)) (now (next .exit)) (now (stale .exit)) (now (heads .exit)) (now (events .exit)) ⌝ }
 {
     let mut t = Tally {
         items: 0,
@@ -179,12 +200,13 @@ fn play(
     Played { tally: t, queue: q }
 }
 
-// The first n items of a file, through a cache whose pages are the first `resident` places of the buffer, in rows that are lent.
+// The first n items of a file, through a cache whose frames are the first `resident` places of two columns, in rows that are lent.
 pub fn run(
     file: &[u8],
     n: usize,
     k: usize,
     cache: &mut [u64],
+    kept: &mut [bool],
     resident: usize,
     events: &mut [u64],
     log: &mut [u64],
@@ -192,15 +214,24 @@ pub fn run(
     stale: &mut [u8],
     heads: &mut [u16],
 ) -> Finish
-    requires { ⌜ CanRun (now file) n k resident (now cache) (now events) ⌝ }
+    requires { ⌜ CanRun (now file) n k resident (now cache) (now kept) (now events) ⌝ }
     requires { ⌜ Rows (now log) (now next) (now stale) (now heads) ⌝ }
-    ensures { λ r. ⌜ Ran (lru k (take resident (now (cache .entry))) (itemsFrom (now (file .entry)) 0 n)) (tallyOf k (take resident (now (cache .entry))) nothing (itemsFrom (now (file .entry)) 0 n)) (now (cache .entry)) (now (events .entry)) r (now (cache .exit)) (now (events .exit)) ⌝ }
+    ensures { λ r. ⌜ Ran (lru k (take resident (framesOf (now (cache .entry)) (now (kept .entry)))) (itemsFrom (now (file .entry)) 0 n))
+        (tallyOf k (take resident (framesOf (now (cache .entry)) (now (kept .entry)))) nothing (itemsFrom (now (file .entry)) 0 n))
+        (now (cache .entry)) (now (kept .entry)) (now (events .entry)) r (now (cache .exit)) (now (kept .exit)) (now (events .exit)) ⌝ }
 {
-    let q = recency::load(&cache[0..resident], log, next, stale, heads);
+    let q = recency::load(
+        &cache[0..resident],
+        &kept[0..resident],
+        log,
+        next,
+        stale,
+        heads,
+    );
     let d = play(file, n, k, log, next, stale, heads, q, events);
     let t = d.tally;
     let v = d.queue;
-    recency::save(log, stale, v, cache);
+    recency::save(log, stale, v, cache, kept);
     Finish {
         tally: t,
         resident: v.resident,

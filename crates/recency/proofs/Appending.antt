@@ -1,64 +1,35 @@
 -- A use of a page: one that is resident, and one that comes in. Assumes nothing.
 use Prim.Native.Nat.{ℕ, _+_, _-_, _≤_, _<_}
-use mathlib.Core.Path.{_≡_, sym, ap, _∙_}
-use mathlib.Core.Bool.{true, false, _||_, or-false, or-true, false≢true}
+use mathlib.Core.Path.{_≡_, refl, sym, ap, _∙_}
+use mathlib.Core.Bool.{Bool, true, false, _||_, _&&_, or-false, or-true, false≢true}
 use mathlib.Core.List.{List, [], _∷_, _++_}
 use native.Mathlib.Omega.{arith}
 use native.Mathlib.Numerals.{add-one}
-use lib.ListN.{length, getD, take, drop, set, length-set, length-drop}
-use lib.Seq.{length-take-le, getD-take, getD-drop, getD-set-same, getD-set-other, take-suc-set, drop-append-le}
+use lib.ListN.{length, getD, take, drop, set, length-set}
+use lib.Seq.{length-take-le, getD-set-same, getD-set-other, take-suc-set, drop-append-le}
 use lib.Dec.{eqb, ltb}
-use borrow.Author.Tests.{lt-ltb, le-ltb, ltb-true, ltb-false, eq-eqb, eqb-false}
-use Rattle.pages.specs.Pages.{has, remove, place}
+use borrow.Author.Tests.{lt-ltb, le-ltb, ltb-true, ltb-false, eq-eqb, ne-eqb, eqb-false}
+use Rattle.pages.specs.Pages.{has, remove, Distinct}
 use Rattle.pages.proofs.Choice.{split, same}
-use Rattle.pages.proofs.Added.{has-join}
-use Rattle.pages.proofs.Pages.{length-move, remove-absent}
-use Rattle.pages.proofs.Table.{has-getD, getD-place, place-within}
+use Rattle.pages.proofs.Added.{has-join, distinct-reverse}
+use Rattle.pages.proofs.Pages.{length-move, remove-absent, removed, has-remove}
+use Rattle.frames.specs.Frames.{framed, framesBy, dirty, taken}
+use Rattle.frames.specs.declared.Frame.{Frame}
+use Rattle.frames.proofs.By.{pages-by, by-same, dirty-by, dirty-absent, taken-by}
 use Rattle.chains.specs.Chains.{at, newest}
 use Rattle.chains.proofs.Newest.{newest-at, newest-beyond}
-use Rattle.recency.specs.Order.{order}
+use Rattle.recency.specs.Order.{lasts, order}
 use Rattle.recency.specs.Linked.{Linked, CanLink, lastFrom}
-use Rattle.recency.specs.Held.{part, residents, Marked, Held, Holds, CanShorten, Shortened, CanAppend, CanMark, countWith, staleWith, CanUse, Gone}
+use Rattle.recency.specs.Held.{part, residents, stateOf, wrote, frames, Marked, Held, Holds, CanShorten, Shortened, CanAppend, CanMark, countWith, staleWith, writtenWith, CanUse, Gone}
 use Rattle.recency.specs.declared.Queue.{Queue}
 use Rattle.recency.specs.declared.Evicted.{Evicted}
-use Rattle.recency.proofs.Order.{order-use, has-order}
+use Rattle.recency.proofs.Order.{order-use, has-order, distinct-lasts}
 use Rattle.recency.proofs.Linking.{linked-store}
 use Rattle.recency.proofs.Counting.{part-none}
-use Rattle.recency.proofs.Fresh.{whole, shortened-count, shortened-holds}
+use Rattle.recency.proofs.Places.{has-part, has-last, wrote-live, last-place, last-other}
+use Rattle.recency.proofs.Fresh.{whole, state-live, state-says, shortened-count, shortened-holds}
 
--- ---- where a page stands
-
-module _ (log : List ℕ) (low end p : ℕ) (behind : low ≤ end) (within : end ≤ length log) where
-  reads : (j : ℕ) → low + j < end → getD (part log low end) j 0 ≡ getD log (low + j) 0
-  reads j h = getD-drop low (take end log) j 0 ∙ getD-take end log (low + j) 0 h
-
-  long : length (part log low end) ≡ end - low
-  long = length-drop low (take end log) ∙ rw (length-take-le end log within)
-
-  -- A page that stands in a part of a log is in it.
-  pub has-part : (r : ℕ) → low ≤ r → r < end → getD log r 0 ≡ p → has p (part log low end) ≡ true
-  has-part r f h q =
-      let u : low + (r - low) ≡ r = omega arith in
-      has-getD p (part log low end) (r - low) (omega (arith, long)) (reads (r - low) (omega arith) ∙ rw u q)
-
-  -- It is in it exactly if its last place is.
-  pub has-last : has p (part log low end) ≡ ltb low (newest (at log) p end)
-  unfolding at
-  has-last =
-      split (ltb low (newest (at log) p end))
-      (λ t.
-      let j = newest (at log) p end - 1 in
-      let o = ltb-true low (newest (at log) p end) t in
-      let z = newest-at (at log) p end j (omega arith) in
-      rw t (has-part j (omega arith) (z .1) (z .0)))
-      (λ t. split (has p (part log low end))
-      (λ h.
-      let j = place p (part log low end) in
-      let w = place-within p (part log low end) h in
-      let g = getD-place p (part log low end) h in
-      let o : low + j < end = omega (arith, long) in
-      absurd (newest-beyond (at log) p end (low + j) (omega (arith, ltb-false low (newest (at log) p end) t)) o (sym (reads j o) ∙ g)))
-      (λ h. h ∙ sym t))
+-- ---- a page that is resident
 
 module _ {log next stale heads : List ℕ} {q : Queue} (h : Held log next stale heads q) where
   -- A page is resident exactly if its last place is found.
@@ -77,14 +48,26 @@ module _ {log next stale heads : List ℕ} {q : Queue} (h : Held log next stale 
   pub gone-held : {r : Evicted} → Gone log stale q r → Held log next stale heads (r .queue)
   gone-held g = record { logged = g .logged; linked = rw (g .now-is) (h .linked); room = rw (g .now-is) (h .room) }
 
+-- No page is resident twice.
+distinct-held : (log : List ℕ) (q : Queue) → Distinct (residents log q)
+unfolding residents order
+distinct-held log q = distinct-reverse (lasts (part log (q .low) (q .now))) (distinct-lasts (part log (q .low) (q .now)))
+
+-- A page that stays when another is taken out is resident, and another one.
+stays : (log : List ℕ) (q : Queue) (page p : ℕ) → has p (remove page (residents log q)) ≡ true → (has p (part log (q .low) (q .now)) ≡ true) × (eqb page p ≡ false)
+unfolding residents
+stays log q page p h =
+    let o = split (eqb page p)
+    (λ e. absurd (false≢true (sym (removed page (residents log q) (distinct-held log q)) ∙ rw (← same page p e) at h)))
+    (λ e. e) in
+    let k = split (has p (residents log q)) (λ e. e) (λ e. absurd (false≢true (sym (has-remove page p (residents log q) e) ∙ h))) in
+    (sym (has-order p (part log (q .low) (q .now))) ∙ k, o)
+
 -- ---- a page appended
 
 module _ {log next stale heads : List ℕ} {q : Queue} {m page : ℕ} (can : CanAppend log next stale heads q m page) where
   abbrev log′ : List ℕ
   log′ = set log (q .now) page
-
-  abbrev stale′ : List ℕ
-  stale′ = set stale (q .now) 0
 
   pub append-stales : q .now < length stale
   append-stales = omega (arith, can .room, can .stale-long)
@@ -92,70 +75,102 @@ module _ {log next stale heads : List ℕ} {q : Queue} {m page : ℕ} (can : Can
   pub append-link : CanLink log′ next heads (q .now)
   append-link = record { linked = linked-store (can .linked) (q .now) page (omega arith); room = rw length-set (can .room) }
 
-  was : List ℕ
-  was = take (q .now) log
-
   was-long : length (take (q .now) log) ≡ q .now
   was-long = length-take-le (q .now) log (omega (arith, can .room))
 
   longer : take (q .now + 1) log′ ≡ take (q .now) log ++ (page ∷ [])
   longer = rw add-one (take-suc-set log (q .now) page (can .room))
 
+  long-enough : q .now + 1 ≤ length log′
+  long-enough = rw length-set (omega (arith, can .room))
+
   order-is : order (part log′ (q .low) (q .now + 1)) ≡ page ∷ remove page (residents log q)
   unfolding residents
   order-is = rw (longer, drop-append-le (q .low) (take (q .now) log) (page ∷ []) (omega (arith, was-long, can .behind))) (order-use page (part log (q .low) (q .now)))
 
-  marked : Marked log′ stale′ (q .low) (q .now + 1)
-  unfolding has
-  marked = record {
-    are = λ r f h. split (eqb r (q .now))
-        (λ t.
-        let z = same r (q .now) t in
-        rw (z, getD-set-same stale (q .now) 0 0 append-stales, le-ltb 0 0 (omega arith), part-none log′ (q .now + 1) (rw length-set (omega (arith, can .room))) (q .now + 1) (omega arith)))
-        (λ t.
-        let d = eqb-false r (q .now) t in
-        rw (
-          getD-set-other stale (q .now) r 0 0 d,
-          getD-set-other log (q .now) r page 0 d,
-          longer,
-          drop-append-le (r + 1) (take (q .now) log) (page ∷ []) (omega (arith, was-long)),
-          has-join (getD log r 0) (drop (r + 1) (take (q .now) log)) (page ∷ []),
-          or-false (eqb (getD log r 0) page),
-        ) (can .marks r f (omega arith)));
-  }
+  module _ (w : Bool) {v : ℕ} (says : v ≡ stateOf w) where
+    abbrev stale′ : List ℕ
+    stale′ = set stale (q .now) v
 
-  pub append-shorten : {next′ heads′ : List ℕ} → Linked log′ next′ heads′ (q .now + 1) → CanShorten log′ next′ stale′ heads′ (q .low) (q .now + 1)
-  append-shorten l = record {
-    pack = record { behind = omega (arith, can .behind); within = rw length-set (omega (arith, can .room)); stale-long = rw (length-set, length-set) (can .stale-long); marked = marked };
-    linked = l;
-  }
+    marked : Marked log′ stale′ (q .low) (q .now + 1)
+    unfolding has
+    marked = record {
+      are = λ r f h. split (eqb r (q .now))
+          (λ t.
+          let z = same r (q .now) t in
+          rw (z, getD-set-same stale (q .now) v 0 append-stales, part-none log′ (q .now + 1) long-enough (q .now + 1) (omega arith), says) (state-live w))
+          (λ t.
+          let d = eqb-false r (q .now) t in
+          rw (
+            getD-set-other stale (q .now) r v 0 d,
+            getD-set-other log (q .now) r page 0 d,
+            longer,
+            drop-append-le (r + 1) (take (q .now) log) (page ∷ []) (omega (arith, was-long)),
+            has-join (getD log r 0) (drop (r + 1) (take (q .now) log)) (page ∷ []),
+            or-false (eqb (getD log r 0) page),
+          ) (can .marks r f (omega arith)));
+    }
 
-  -- With room for a use more,
-  pub appended : {next′ heads′ : List ℕ} → Linked log′ next′ heads′ (q .now + 1) → q .now + 1 < length log′
-      → Holds (page ∷ remove page (residents log q)) log′ next′ stale′ heads′ (record { resident = m; low = q .low; now = q .now + 1 })
-  unfolding residents
-  appended l r = record {
-    held = record {
-      logged = record {
-        behind = omega (arith, can .behind);
-        within = rw length-set (omega (arith, can .room));
-        stale-long = rw (length-set, length-set) (can .stale-long);
-        marked = marked;
-        count = rw order-is (can .count);
-      };
+    -- The page is written as its new place says,
+    wrote-new : wrote log′ stale′ (q .low) (q .now + 1) page ≡ w
+    unfolding has
+    wrote-new =
+        let g = getD-set-same log (q .now) page 0 (can .room) in
+        let n : has (getD log′ (q .now) 0) (drop (q .now + 1) (take (q .now + 1) log′)) ≡ false = rw (part-none log′ (q .now + 1) long-enough (q .now + 1) (omega arith)) in
+        let u = wrote-live log′ (q .low) (q .now + 1) long-enough stale′ (q .now) (can .behind) (omega arith) n in
+        (rw g at u) ∙ rw (getD-set-same stale (q .now) v 0 append-stales, says) (state-says w)
+
+    -- and any other as it was.
+    wrote-other : (p : ℕ) → has p (remove page (residents log q)) ≡ true → wrote log′ stale′ (q .low) (q .now + 1) p ≡ wrote log stale (q .low) (q .now) p
+    unfolding wrote
+    wrote-other p h =
+        let (k, o) = stays log q page p h in
+        let e = lastFrom (q .low) log (q .now) p in
+        let l = last-place log (q .low) (q .now) p (can .behind) (omega (arith, can .room)) k e refl in
+        rw (last-other log (q .low) (q .now) page p (can .room) o, getD-set-other stale (q .now) (e - 1) v 0 (λ y. omega (arith, l .0, l .1)))
+
+    frames-new : framesBy (wrote log′ stale′ (q .low) (q .now + 1)) (order (part log′ (q .low) (q .now + 1))) ≡ framed page w ∷ taken page (frames log stale q)
+    unfolding frames
+    frames-new =
+        let u = wrote log′ stale′ (q .low) (q .now + 1) in
+        let y = wrote log stale (q .low) (q .now) in
+        let r = remove page (residents log q) in
+        ap (framesBy u) order-is
+        ∙ ap (λ (b : Bool). framed page b ∷ framesBy u r) wrote-new
+        ∙ ap (λ (l : List Frame). framed page w ∷ l) (by-same u y r wrote-other ∙ sym (taken-by y page (residents log q)))
+
+    pub append-shorten : {next′ heads′ : List ℕ} → Linked log′ next′ heads′ (q .now + 1) → CanShorten log′ next′ stale′ heads′ (q .low) (q .now + 1)
+    append-shorten l = record {
+      pack = record { behind = omega (arith, can .behind); within = long-enough; stale-long = rw (length-set, length-set) (can .stale-long); marked = marked };
       linked = l;
-      room = r;
-    };
-    pages-are = order-is;
-  }
+    }
 
-  -- or made short.
-  pub append-short : {log₂ next₂ stale₂ heads₂ : List ℕ} {n : ℕ} → Shortened log′ (q .low) (q .now + 1) log₂ next₂ stale₂ heads₂ n
-      → length log₂ ≡ length log′ → length stale₂ ≡ length stale′ → Holds (page ∷ remove page (residents log q)) log₂ next₂ stale₂ heads₂ (whole n)
-  append-short {log₂} {n = n} s a b =
-      let c : n ≡ m = shortened-count s ∙ ap length order-is ∙ can .count in
-      let a′ : length log₂ ≡ length log = a ∙ length-set log (q .now) page in
-      rw order-is at (shortened-holds s (omega (arith, can .few)) (omega (arith, b, length-set stale (q .now) 0, can .stale-long)))
+    -- With room for a use more,
+    pub appended : {next′ heads′ : List ℕ} → Linked log′ next′ heads′ (q .now + 1) → q .now + 1 < length log′
+        → Holds (framed page w ∷ taken page (frames log stale q)) log′ next′ stale′ heads′ (record { resident = m; low = q .low; now = q .now + 1 })
+    unfolding frames residents
+    appended l r = record {
+      held = record {
+        logged = record {
+          behind = omega (arith, can .behind);
+          within = long-enough;
+          stale-long = rw (length-set, length-set) (can .stale-long);
+          marked = marked;
+          count = rw order-is (can .count);
+        };
+        linked = l;
+        room = r;
+      };
+      frames-are = frames-new;
+    }
+
+    -- or made short.
+    pub append-short : {log₂ next₂ stale₂ heads₂ : List ℕ} {n : ℕ} → Shortened log′ stale′ (q .low) (q .now + 1) log₂ next₂ stale₂ heads₂ n
+        → length log₂ ≡ length log′ → length stale₂ ≡ length stale′ → Holds (framed page w ∷ taken page (frames log stale q)) log₂ next₂ stale₂ heads₂ (whole n)
+    append-short {log₂} {n = n} s a b =
+        let c : n ≡ m = shortened-count s ∙ ap length order-is ∙ can .count in
+        let a′ : length log₂ ≡ length log = a ∙ length-set log (q .now) page in
+        rw frames-new at (shortened-holds s (omega (arith, can .few)) (omega (arith, b, length-set stale (q .now) v, can .stale-long)))
 
 -- ---- a page used
 
@@ -174,7 +189,7 @@ module _ {log next stale heads : List ℕ} {q : Queue} {page e : ℕ} (can : Can
 
     -- What stands before the page's last place is stale already.
     found-marks : (r : ℕ) → q .low ≤ r → r < q .now
-        → ltb 0 (getD (set stale (e - 1) 1) r 0) ≡ has (getD log r 0) (drop (r + 1) (take (q .now) log)) || eqb (getD log r 0) page
+        → eqb (getD (set stale (e - 1) 1) r 0) 1 ≡ has (getD log r 0) (drop (r + 1) (take (q .now) log)) || eqb (getD log r 0) page
     unfolding at
     found-marks r f h =
         let l = can .held .logged in
@@ -182,7 +197,7 @@ module _ {log next stale heads : List ℕ} {q : Queue} {page e : ℕ} (can : Can
         (λ t.
         let z = same r (e - 1) t in
         let w : e - 1 < length stale = omega (arith, place-of .1, can .held .room, l .stale-long) in
-        rw (z, getD-set-same stale (e - 1) 1 0 w, lt-ltb 0 1 (omega arith), eq-eqb (getD log (e - 1) 0) page (place-of .0), or-true))
+        rw (z, getD-set-same stale (e - 1) 1 0 w, eq-eqb 1 1 refl, eq-eqb (getD log (e - 1) 0) page (place-of .0), or-true))
         (λ t.
         let d = eqb-false r (e - 1) t in
         rw (getD-set-other stale (e - 1) r 1 0 d, l .marked .are r f h) (split (eqb (getD log r 0) page)
@@ -216,6 +231,9 @@ module _ {log next stale heads : List ℕ} {q : Queue} {page e : ℕ} (can : Can
     small = omega (arith, can .few, can .held .linked .small);
   }
 
+  pub use-reads : e ≤ length stale
+  use-reads = use-mark .within
+
   -- and then appended.
   pub use-append : {stale′ : List ℕ} {m : ℕ} → stale′ ≡ staleWith (q .low) e stale → m ≡ countWith (q .low) e (q .resident)
       → CanAppend log next stale′ heads q m page
@@ -246,6 +264,47 @@ module _ {log next stale heads : List ℕ} {q : Queue} {page e : ℕ} (can : Can
         few = can .few;
       })
 
+  -- ---- what it leaves
+
+  -- The page was written if its last place says so.
+  dirty-is : dirty page (frames log stale q) ≡ ltb (q .low) e && eqb (getD stale (e - 1) 0) 2
+  unfolding frames wrote
+  dirty-is =
+      let y = wrote log stale (q .low) (q .now) in
+      let k = has-held (can .held) page (can .last) in
+      split (ltb (q .low) e)
+      (λ t. rw t (dirty-by y page (residents log q) (k ∙ t) ∙ rw (← can .last)))
+      (λ t. rw t (dirty-absent page (framesBy y (residents log q)) (rw pages-by (k ∙ t))))
+
+  -- The other pages are written as they were.
+  others : taken page (frames log (staleWith (q .low) e stale) q) ≡ taken page (frames log stale q)
+  unfolding frames staleWith wrote
+  others =
+      let y = wrote log stale (q .low) (q .now) in
+      let u = wrote log (staleWith (q .low) e stale) (q .low) (q .now) in
+      let r = remove page (residents log q) in
+      let l = can .held .logged in
+      taken-by u page (residents log q)
+      ∙ by-same u y r
+      (λ p h.
+      let (k, o) = stays log q page p h in
+      let d = lastFrom (q .low) log (q .now) p in
+      let z = last-place log (q .low) (q .now) p (l .behind) (l .within) k d refl in
+      split (ltb (q .low) e)
+      (λ t.
+      let f = place-of (ltb-true (q .low) e t) .0 in
+      rw (t, getD-set-other stale (e - 1) (d - 1) 1 0 (λ i. eqb-false page p o (sym f ∙ ap (λ (n : ℕ). getD log n 0) (sym i) ∙ z .2))))
+      (λ t. rw t))
+      ∙ sym (taken-by y page (residents log q))
+
+  pub use-done : (w : Bool) {stale″ : List ℕ} {v : Bool} {log′ next′ stale′ heads′ : List ℕ} {r : Queue} → stale″ ≡ staleWith (q .low) e stale → v ≡ writtenWith (q .low) e stale w
+      → Holds (framed page v ∷ taken page (frames log stale″ q)) log′ next′ stale′ heads′ r
+      → Holds (framed page (dirty page (frames log stale q) || w) ∷ taken page (frames log stale q)) log′ next′ stale′ heads′ r
+  unfolding writtenWith
+  use-done w a b h =
+      let c : writtenWith (q .low) e stale w ≡ dirty page (frames log stale q) || w = rw dirty-is in
+      rw (a, others, b, c) at h
+
 -- ---- as `mark` does it
 
 module _ (low e m : ℕ) where
@@ -273,3 +332,18 @@ last-later low low′ log n p {e} k o h =
     split (ltb low (newest (at log) p n))
     (λ t. let z : e ≡ newest (at log) p n = rw t at k in absurd (omega (arith, ltb-true low (newest (at log) p n) t)))
     (λ t. let z : e ≡ 0 = rw t at k in z ∙ sym (rw (le-ltb low′ (newest (at log) p n) (omega (arith, ltb-false low (newest (at log) p n) t)))))
+
+-- ---- as `stays_written` does it
+
+module _ (low e : ℕ) (stale : List ℕ) (w : Bool) where
+  pub written-found : low < e → getD stale (e - 1) 0 ≡ 2 → true ≡ writtenWith low e stale w
+  unfolding writtenWith
+  written-found o h = rw (lt-ltb low e o, h)
+
+  pub written-clean : low < e → (getD stale (e - 1) 0 ≡ 2 → ⊥) → w ≡ writtenWith low e stale w
+  unfolding writtenWith
+  written-clean o h = rw (lt-ltb low e o, ne-eqb (getD stale (e - 1) 0) 2 h)
+
+  pub written-new : e ≤ low → w ≡ writtenWith low e stale w
+  unfolding writtenWith
+  written-new o = rw (le-ltb low e o)

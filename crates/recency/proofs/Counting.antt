@@ -6,10 +6,9 @@ use mathlib.Core.List.{List, [], _∷_, _++_}
 use native.Mathlib.Omega.{arith}
 use lib.ListN.{length, getD, take, drop, drop-of-length-le}
 use lib.Seq.{length-take-le, getD-take}
-use lib.Dec.{eqb}
-use borrow.Author.Tests.{lt-ltb, le-ltb, eqb-false}
+use borrow.Author.Tests.{eq-eqb, ne-eqb}
 use Rattle.pages.specs.Pages.{has}
-use Rattle.pages.proofs.Choice.{split, same}
+use Rattle.pages.proofs.Choice.{split}
 use Rattle.pages.proofs.Rows.{drop-next}
 use Rattle.recency.specs.Order.{lasts}
 use Rattle.recency.specs.Held.{Marked}
@@ -26,15 +25,11 @@ module _ (log : List ℕ) (end : ℕ) (within : end ≤ length log) where
   part-none r h = drop-of-length-le (take end log) {i = r} (omega (arith, long))
 
 module _ {log stale : List ℕ} {low end : ℕ} (m : Marked log stale low end) {r : ℕ} (from : low ≤ r) (h : r < end) where
-  pub place-live : getD stale r 0 ≡ 0 → has (getD log r 0) (drop (r + 1) (take end log)) ≡ false
-  place-live e = sym (m .are r from h) ∙ rw e (le-ltb 0 0 (omega arith))
+  pub place-live : (getD stale r 0 ≡ 1 → ⊥) → has (getD log r 0) (drop (r + 1) (take end log)) ≡ false
+  place-live n = sym (m .are r from h) ∙ ne-eqb (getD stale r 0) 1 n
 
-  pub place-stale : (getD stale r 0 ≡ 0 → ⊥) → has (getD log r 0) (drop (r + 1) (take end log)) ≡ true
-  place-stale n =
-      sym (m .are r from h)
-      ∙ split (eqb (getD stale r 0) 0)
-      (λ t. absurd (n (same (getD stale r 0) 0 t)))
-      (λ t. let d = eqb-false (getD stale r 0) 0 t in lt-ltb 0 (getD stale r 0) (omega arith))
+  pub place-stale : getD stale r 0 ≡ 1 → has (getD log r 0) (drop (r + 1) (take end log)) ≡ true
+  place-stale e = sym (m .are r from h) ∙ eq-eqb (getD stale r 0) 1 e
 
 -- A longer log has no fewer pages.
 pub lasts-grow : (a b : List ℕ) → length (lasts b) ≤ length (lasts (a ++ b))

@@ -2,6 +2,7 @@ pub mod Once
 pub mod Order
 pub mod Linking
 pub mod Counting
+pub mod Places
 pub mod Indexing
 pub mod Packing
 pub mod Aging

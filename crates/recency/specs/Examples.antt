@@ -1,11 +1,13 @@
 -- The definitions of a log at work, each computed once. Assumes nothing.
 use mathlib.Core.Path.{_≡_, refl}
+use mathlib.Core.Bool.{true, false}
 use mathlib.Core.List.{[], _∷_, map}
 use Rattle.pages.specs.Pages.{has}
+use Rattle.frames.specs.Frames.{framed}
 use Rattle.chains.specs.Chains.{at, newest, mixed}
 use Rattle.recency.specs.Order.{lasts, order}
 use Rattle.recency.specs.Linked.{bucketOf, lastFrom}
-use Rattle.recency.specs.Held.{residents, countWith, staleWith}
+use Rattle.recency.specs.Held.{residents, wrote, frames, countWith, staleWith, writtenWith}
 
 -- Page 5 was used twice: it counts where it was used last.
 used-twice : lasts (5 ∷ 7 ∷ 5 ∷ 9 ∷ []) ≡ 7 ∷ 5 ∷ 9 ∷ []
@@ -31,8 +33,26 @@ gone : lastFrom 1 (3 ∷ 7 ∷ 8 ∷ 8 ∷ 7 ∷ 0 ∷ []) 5 3 ≡ 0
 unfolding lastFrom newest at
 gone = refl
 
+-- Place 3 says that page 8 was written, and place 4 that page 7 was not.
+marked : frames (3 ∷ 7 ∷ 8 ∷ 8 ∷ 7 ∷ 0 ∷ []) (0 ∷ 1 ∷ 1 ∷ 2 ∷ 0 ∷ 0 ∷ []) (record { resident = 2; low = 1; now = 5 }) ≡ framed 7 false ∷ framed 8 true ∷ []
+unfolding frames wrote residents order lasts has lastFrom newest at
+marked = refl
+
+-- A read of page 8, which was found at 4, leaves it written; page 7, found at 5, is written by a write alone, and page 3, which is not found, too.
+stays : writtenWith 1 4 (0 ∷ 1 ∷ 1 ∷ 2 ∷ 0 ∷ 0 ∷ []) false ≡ true
+unfolding writtenWith
+stays = refl
+
+clean : writtenWith 1 5 (0 ∷ 1 ∷ 1 ∷ 2 ∷ 0 ∷ 0 ∷ []) false ≡ false
+unfolding writtenWith
+clean = refl
+
+comes-in : writtenWith 1 0 (0 ∷ 1 ∷ 1 ∷ 2 ∷ 0 ∷ 0 ∷ []) true ≡ true
+unfolding writtenWith
+comes-in = refl
+
 -- A page that was found at 5 makes place 4 stale, and is not counted again.
-found-again : staleWith 1 5 (0 ∷ 1 ∷ 1 ∷ 0 ∷ 0 ∷ 0 ∷ []) ≡ 0 ∷ 1 ∷ 1 ∷ 0 ∷ 1 ∷ 0 ∷ []
+found-again : staleWith 1 5 (0 ∷ 1 ∷ 1 ∷ 2 ∷ 0 ∷ 0 ∷ []) ≡ 0 ∷ 1 ∷ 1 ∷ 2 ∷ 1 ∷ 0 ∷ []
 unfolding staleWith
 found-again = refl
 

@@ -1,12 +1,15 @@
--- A cache held as a log: which pages are resident, what the rows must say, and what the functions are told and leave. Assumes nothing.
+-- A cache held as a log: which frames are resident, what the rows must say, and what the functions are told and leave. Assumes nothing.
 use Prim.Native.Nat.{ℕ, _+_, _-_, _≤_, _<_}
 use mathlib.Core.Path.{_≡_}
-use mathlib.Core.Bool.{cond, _||_}
-use mathlib.Core.List.{List, _∷_, dropLast, getLast?}
+use mathlib.Core.Bool.{Bool, false, cond, _||_, _&&_}
+use mathlib.Core.List.{List, _∷_, dropLast, getLast?, reverse}
 use mathlib.Core.Option.{some}
 use lib.ListN.{length, getD, take, drop, set}
 use lib.Dec.{eqb, ltb}
+use Rattle.pages.specs.Rows.{over}
 use Rattle.pages.specs.Pages.{has, remove, Distinct}
+use Rattle.frames.specs.Frames.{framed, framesBy}
+use Rattle.frames.specs.declared.Frame.{Frame}
 use Rattle.recency.specs.Order.{lasts, order}
 use Rattle.recency.specs.Linked.{buckets, Linked, lastFrom}
 use Rattle.recency.specs.declared.Queue.{Queue}
@@ -20,9 +23,21 @@ part log low end = drop low (take end log)
 unfoldable pub residents : List ℕ → Queue → List ℕ
 residents log q = order (part log (q .low) (q .now))
 
+-- What the last place of a page says: 0 that it is clean, 2 that it was written. Any other place says 1: it is stale.
+abbrev pub stateOf : Bool → ℕ
+stateOf w = cond w 2 0
+
+-- Whether a page was written.
+unfoldable pub wrote : List ℕ → List ℕ → ℕ → ℕ → ℕ → Bool
+wrote log stale low end p = eqb (getD stale (lastFrom low log end p - 1) 0) 2
+
+-- The resident frames.
+unfoldable pub frames : List ℕ → List ℕ → Queue → List Frame
+frames log stale q = framesBy (wrote log stale (q .low) (q .now)) (residents log q)
+
 -- A place is stale exactly if its page stands again in the log behind it.
 pub record Marked (log stale : List ℕ) (low end : ℕ) : Type 0 where
-  pub are : (r : ℕ) → low ≤ r → r < end → ltb 0 (getD stale r 0) ≡ has (getD log r 0) (drop (r + 1) (take end log))
+  pub are : (r : ℕ) → low ≤ r → r < end → eqb (getD stale r 0) 1 ≡ has (getD log r 0) (drop (r + 1) (take end log))
 
 -- A log's stale places are known, and how many pages are resident.
 pub record Logged (log stale : List ℕ) (q : Queue) : Type 0 where
@@ -38,25 +53,19 @@ pub record Held (log next stale heads : List ℕ) (q : Queue) : Type 0 where
   pub linked : Linked log next heads (q .now)
   pub room : q .now < length log
 
--- The rows hold a cache whose pages are s.
-pub record Holds (s log next stale heads : List ℕ) (q : Queue) : Type 0 where
+-- The rows hold a cache whose frames are s.
+pub record Holds (s : List Frame) (log next stale heads : List ℕ) (q : Queue) : Type 0 where
   pub held : Held log next stale heads q
-  pub pages-are : residents log q ≡ s
+  pub frames-are : frames log stale q ≡ s
 
 -- ---- the log made short
 
 -- The rows have room for a log, of which the first n places are to be chained.
-pub record CanIndex (log next stale heads : List ℕ) (n : ℕ) : Type 0 where
+pub record CanIndex (log next heads : List ℕ) (n : ℕ) : Type 0 where
   pub within : n ≤ length log
   pub small : length log ≤ 65535
   pub next-long : length log ≤ length next
-  pub stale-long : length log ≤ length stale
   pub heads-long : buckets ≤ length heads
-
--- The first n places are chained, and none is stale.
-pub record Indexed (log next stale heads : List ℕ) (n : ℕ) : Type 0 where
-  pub linked : Linked log next heads n
-  pub fresh : (r : ℕ) → r < n → getD stale r 0 ≡ 0
 
 -- The stale places are known.
 pub record CanPack (log stale : List ℕ) (low end : ℕ) : Type 0 where
@@ -65,10 +74,12 @@ pub record CanPack (log stale : List ℕ) (low end : ℕ) : Type 0 where
   pub stale-long : length log ≤ length stale
   pub marked : Marked log stale low end
 
--- The places that count are the first r.
-pub record Packed (log : List ℕ) (low end : ℕ) (log′ : List ℕ) (r : ℕ) : Type 0 where
+-- The places that count are the first r, and say what they said.
+pub record Packed (log stale : List ℕ) (low end : ℕ) (log′ stale′ : List ℕ) (r : ℕ) : Type 0 where
   pub lasts-are : take r log′ ≡ lasts (part log low end)
   pub within : r ≤ length log′
+  pub live : (j : ℕ) → j < r → eqb (getD stale′ j 0) 1 ≡ false
+  pub said : (j : ℕ) → j < r → eqb (getD stale′ j 0) 2 ≡ wrote log stale low end (getD log′ j 0)
 
 -- A log can be made short.
 pub record CanShorten (log next stale heads : List ℕ) (low end : ℕ) : Type 0 where
@@ -76,9 +87,9 @@ pub record CanShorten (log next stale heads : List ℕ) (low end : ℕ) : Type 0
   pub linked : Linked log next heads end
 
 -- The first r places, which are those that counted, are all there is.
-pub record Shortened (log : List ℕ) (low end : ℕ) (log′ next′ stale′ heads′ : List ℕ) (r : ℕ) : Type 0 where
-  pub packed : Packed log low end log′ r
-  pub indexed : Indexed log′ next′ stale′ heads′ r
+pub record Shortened (log stale : List ℕ) (low end : ℕ) (log′ next′ stale′ heads′ : List ℕ) (r : ℕ) : Type 0 where
+  pub packed : Packed log stale low end log′ stale′ r
+  pub linked : Linked log′ next′ heads′ r
 
 -- ---- the uses of pages
 
@@ -88,7 +99,7 @@ pub record CanAppend (log next stale heads : List ℕ) (q : Queue) (m page : ℕ
   pub stale-long : length log ≤ length stale
   pub linked : Linked log next heads (q .now)
   pub room : q .now < length log
-  pub marks : (r : ℕ) → q .low ≤ r → r < q .now → ltb 0 (getD stale r 0) ≡ has (getD log r 0) (drop (r + 1) (take (q .now) log)) || eqb (getD log r 0) page
+  pub marks : (r : ℕ) → q .low ≤ r → r < q .now → eqb (getD stale r 0) 1 ≡ has (getD log r 0) (drop (r + 1) (take (q .now) log)) || eqb (getD log r 0) page
   pub count : length (page ∷ remove page (residents log q)) ≡ m
   pub few : m < length log
 
@@ -105,6 +116,10 @@ countWith low e m = cond (ltb low e) m (m + 1)
 unfoldable pub staleWith : ℕ → ℕ → List ℕ → List ℕ
 staleWith low e stale = cond (ltb low e) (set stale (e - 1) 1) stale
 
+-- Whether it is written then: if it is written now, or was where it was found.
+unfoldable pub writtenWith : ℕ → ℕ → List ℕ → Bool → Bool
+writtenWith low e stale w = (ltb low e && eqb (getD stale (e - 1) 0) 2) || w
+
 -- A page can be used: its last place is known, and a log of one page more has room.
 pub record CanUse (log next stale heads : List ℕ) (q : Queue) (page e : ℕ) : Type 0 where
   pub held : Held log next stale heads q
@@ -116,18 +131,31 @@ pub record CanEvict (log stale : List ℕ) (q : Queue) : Type 0 where
   pub logged : Logged log stale q
   pub some : 1 ≤ q .resident
 
--- The last of the resident pages is gone, and told.
+-- The last of the resident frames is gone, and told.
 pub record Gone (log stale : List ℕ) (q : Queue) (r : Evicted) : Type 0 where
   pub logged : Logged log stale (r .queue)
   pub from : q .low ≤ r .queue .low
   pub now-is : r .queue .now ≡ q .now
-  pub pages-are : residents log (r .queue) ≡ dropLast (residents log q)
-  pub last-is : getLast? (residents log q) ≡ some (r .page)
+  pub frames-are : frames log stale (r .queue) ≡ dropLast (frames log stale q)
+  pub last-is : getLast? (frames log stale q) ≡ some (framed (r .page) (r .written))
 
 -- ---- a start and an end
 
--- The pages of a list can be the resident ones.
-pub record CanLoad (list log next stale heads : List ℕ) : Type 0 where
+-- A list can be put in a log backwards, and its marks beside it.
+pub record CanCopy (list : List ℕ) (kept : List Bool) (log stale : List ℕ) : Type 0 where
+  pub marks : length kept ≡ length list
+  pub room : length list ≤ length log
+  pub stale-long : length list ≤ length stale
+
+-- It is: the page at place j of the list stands as far from the end of what was put in, and its mark with it.
+pub record Copied (list : List ℕ) (kept : List Bool) (log log′ stale′ : List ℕ) : Type 0 where
+  pub pages-are : log′ ≡ over (reverse list) log
+  pub pages-at : (j : ℕ) → j < length list → getD log′ (length list - 1 - j) 0 ≡ getD list j 0
+  pub marks-at : (j : ℕ) → j < length list → getD stale′ (length list - 1 - j) 0 ≡ stateOf (getD kept j false)
+
+-- The frames of two columns can be the resident ones.
+pub record CanLoad (list : List ℕ) (kept : List Bool) (log next stale heads : List ℕ) : Type 0 where
+  pub marks : length kept ≡ length list
   pub few : length list < length log
   pub small : length log ≤ 65535
   pub next-long : length log ≤ length next
@@ -135,7 +163,8 @@ pub record CanLoad (list log next stale heads : List ℕ) : Type 0 where
   pub heads-long : buckets ≤ length heads
   pub once : Distinct list
 
--- The resident pages can be told.
-pub record CanSave (log stale : List ℕ) (q : Queue) (list : List ℕ) : Type 0 where
+-- The resident frames can be told in two columns.
+pub record CanSave (log stale : List ℕ) (q : Queue) (list : List ℕ) (kept : List Bool) : Type 0 where
   pub logged : Logged log stale q
+  pub marks : length kept ≡ length list
   pub room : q .resident ≤ length list

@@ -1,12 +1,14 @@
-// The order of recency as a log of pages: every use of a page appends it, and a page counts where it stands last. Chains by bucket find that place.
+// The order of recency as a log of pages: every use of a page appends it, and a page counts where it stands last; that place says whether it was written.
+// Chains by bucket find it.
 ghost use mathlib.Core.Path.{_≡_};
 ghost use Prim.Native.Nat.{_+_, _≤_, _<_};
-ghost use mathlib.Core.List.{_∷_, reverse};
 ghost use lib.ListN.{length};
+ghost use mathlib.Core.List.{_∷_};
+ghost use mathlib.Core.Bool.{_||_};
 ghost use Rattle.pages.specs.Rows.{over};
-ghost use Rattle.pages.specs.Pages.{remove};
+ghost use Rattle.frames.specs.Frames.{framed, pagesOf, marksOf, framesOf, dirty, taken};
 ghost use Rattle.recency.specs.Linked.{buckets, bucketOf, Linked, lastFrom, CanLink};
-ghost use Rattle.recency.specs.Held.{residents, Holds, CanIndex, Indexed, CanPack, Packed, CanShorten, Shortened, CanAppend, CanMark, countWith, staleWith, CanUse, CanEvict, Gone, CanLoad, CanSave};
+ghost use Rattle.recency.specs.Held.{stateOf, frames, Holds, CanIndex, CanPack, Packed, CanShorten, Shortened, CanAppend, CanMark, countWith, staleWith, writtenWith, CanUse, CanEvict, Gone, CanCopy, Copied, CanLoad, CanSave};
 
 // How many places a log has. It is packed when all are used, so there should be far more than pages.
 pub const PLACES: usize = 8192;
@@ -21,10 +23,11 @@ pub struct Queue {
     pub now: usize,
 }
 
-// A cache after an eviction, with the page evicted.
+// A cache after an eviction, with the page evicted and whether it was written.
 pub struct Evicted {
     pub queue: Queue,
     pub page: u64,
+    pub written: bool,
 }
 
 // The bucket of a page.
@@ -58,30 +61,31 @@ pub fn find(log: &[u64], next: &[u16], heads: &[u16], low: usize, end: usize, pa
     0
 }
 
-// The first n places are chained, and none is marked as stale.
-fn index(log: &[u64], next: &mut [u16], stale: &mut [u8], heads: &mut [u16], n: usize)
-    requires { ⌜ CanIndex (now log) (now next) (now stale) (now heads) n ⌝ }
-    ensures { λ _. ⌜ Indexed (now (log .entry)) (now (next .exit)) (now (stale .exit)) (now (heads .exit)) n ⌝ }
+// The first n places are chained.
+fn index(log: &[u64], next: &mut [u16], heads: &mut [u16], n: usize)
+    requires { ⌜ CanIndex (now log) (now next) (now heads) n ⌝ }
+    ensures { λ _. ⌜ Linked (now (log .entry)) (now (next .exit)) (now (heads .exit)) n ⌝ }
 {
     chains::clear(heads);
     let mut c = 0;
     while c < n {
-        stale[c] = 0;
         link(log, next, heads, c);
         c += 1;
     }
 }
 
-// The places from `low` up to `end` that are not stale, moved to the front. Answers how many there are.
-fn pack(log: &mut [u64], stale: &[u8], low: usize, end: usize) -> usize
+// The places from `low` up to `end` that are not stale, moved to the front with what they say. Answers how many there are.
+fn pack(log: &mut [u64], stale: &mut [u8], low: usize, end: usize) -> usize
     requires { ⌜ CanPack (now log) (now stale) low end ⌝ }
-    ensures { λ r. ⌜ Packed (now (log .entry)) low end (now (log .exit)) r ⌝ }
+    ensures { λ r. ⌜ Packed (now (log .entry)) (now (stale .entry)) low end (now (log .exit)) (now (stale .exit)) r ⌝ }
 {
     let mut r = low;
     let mut w = 0;
     while r < end {
+        let s = stale[r];
         log[w] = log[r];
-        if stale[r] != 0 {
+        stale[w] = s;
+        if s == 1 {
             r += 1;
             continue;
         }
@@ -101,11 +105,18 @@ fn shorten(
     end: usize,
 ) -> usize
     requires { ⌜ CanShorten (now log) (now next) (now stale) (now heads) low end ⌝ }
-    ensures { λ r. ⌜ Shortened (now (log .entry)) low end (now (log .exit)) (now (next .exit)) (now (stale .exit)) (now (heads .exit)) r ⌝ }
+    ensures { λ r. ⌜ Shortened (now (log .entry)) (now (stale .entry)) low end (now (log .exit)) (now (next .exit)) (now (stale .exit)) (now (heads .exit)) r ⌝ }
 {
     let n = pack(log, stale, low, end);
-    index(log, next, stale, heads, n);
+    index(log, next, heads, n);
     n
+}
+
+// What a page's last place says.
+fn state(written: bool) -> u8
+    ensures { λ r. ⌜ r ≡ stateOf written ⌝ }
+{
+    if written { 2 } else { 0 }
 }
 
 // A page is appended, and m pages are resident then.
@@ -117,14 +128,16 @@ fn append(
     q: Queue,
     m: usize,
     page: u64,
+    written: bool,
 ) -> Queue
     requires { ⌜ CanAppend (now log) (now next) (now stale) (now heads) q m page ⌝ }
-    ensures { λ r. ⌜ Holds (page ∷ remove page (residents (now (log .entry)) q)) (now (log .exit)) (now (next .exit)) (now (stale .exit)) (now (heads .exit)) r ⌝ }
+    ensures { λ r. ⌜ Holds (framed page written ∷ taken page (frames (now (log .entry)) (now (stale .entry)) q))
+        (now (log .exit)) (now (next .exit)) (now (stale .exit)) (now (heads .exit)) r ⌝ }
 {
     let at = q.now;
     let end = at + 1;
     log[at] = page;
-    stale[at] = 0;
+    stale[at] = state(written);
     link(log, next, heads, at);
     if end < log.len() {
         return Queue {
@@ -154,7 +167,21 @@ fn mark(stale: &mut [u8], low: usize, e: usize, m: usize) -> usize
     m + 1
 }
 
-// A page is used, whose last place is e counted from 1; a page that is not found comes in.
+// Whether a page is written once it is used: if it is now, or was at its last place e counted from 1.
+fn stays_written(stale: &[u8], low: usize, e: usize, written: bool) -> bool
+    requires { ⌜ e ≤ length (now stale) ⌝ }
+    ensures { λ r. ⌜ r ≡ writtenWith low e (now (stale .entry)) written ⌝ }
+{
+    if low < e {
+        if stale[e - 1] == 2 {
+            return true;
+        }
+        return written;
+    }
+    written
+}
+
+// A page is used, whose last place is e counted from 1; a page that is not found comes in. A write marks it, and a mark stays.
 pub fn used(
     log: &mut [u64],
     next: &mut [u16],
@@ -162,13 +189,16 @@ pub fn used(
     heads: &mut [u16],
     q: Queue,
     page: u64,
+    written: bool,
     e: usize,
 ) -> Queue
     requires { ⌜ CanUse (now log) (now next) (now stale) (now heads) q page e ⌝ }
-    ensures { λ r. ⌜ Holds (page ∷ remove page (residents (now (log .entry)) q)) (now (log .exit)) (now (next .exit)) (now (stale .exit)) (now (heads .exit)) r ⌝ }
+    ensures { λ r. ⌜ Holds (framed page (dirty page (frames (now (log .entry)) (now (stale .entry)) q) || written)
+        ∷ taken page (frames (now (log .entry)) (now (stale .entry)) q)) (now (log .exit)) (now (next .exit)) (now (stale .exit)) (now (heads .exit)) r ⌝ }
 {
+    let w = stays_written(stale, q.low, e, written);
     let m = mark(stale, q.low, e, q.resident);
-    append(log, next, stale, heads, q, m, page)
+    append(log, next, stale, heads, q, m, page, w)
 }
 
 // The least recently used page goes: the first from `low` on that is not stale.
@@ -180,7 +210,8 @@ pub fn evict(log: &[u64], stale: &[u8], q: Queue) -> Evicted
     let end = q.now;
     let mut r = q.low;
     while r < end {
-        if stale[r] == 0 {
+        let s = stale[r];
+        if s != 1 {
             return Evicted {
                 queue: Queue {
                     resident: m,
@@ -188,41 +219,48 @@ pub fn evict(log: &[u64], stale: &[u8], q: Queue) -> Evicted
                     now: end,
                 },
                 page: log[r],
+                written: s == 2,
             };
         }
         r += 1;
     }
-    Evicted { queue: q, page: 0 }
+    Evicted {
+        queue: q,
+        page: 0,
+        written: false,
+    }
 }
 
-// A list is written over the front of a log, the last page first.
-fn copy_back(list: &[u64], log: &mut [u64])
-    requires { ⌜ length (now list) ≤ length (now log) ⌝ }
-    ensures { λ _. ⌜ now (log .exit) ≡ over (reverse (now (list .entry))) (now (log .entry)) ⌝ }
+// A list is written over the front of a log, the last page first, and its marks beside it.
+fn copy_back(list: &[u64], kept: &[bool], log: &mut [u64], stale: &mut [u8])
+    requires { ⌜ CanCopy (now list) (now kept) (now log) (now stale) ⌝ }
+    ensures { λ _. ⌜ Copied (now (list .entry)) (now (kept .entry)) (now (log .entry)) (now (log .exit)) (now (stale .exit)) ⌝ }
 {
     let mut i = 0;
     let mut r = list.len();
     while 0 < r {
         r -= 1;
         log[i] = list[r];
+        stale[i] = state(kept[r]);
         i += 1;
     }
 }
 
-// The pages of a list are the resident ones, in the list's order.
+// The frames of two columns are the resident ones, in the columns' order.
 pub fn load(
     list: &[u64],
+    kept: &[bool],
     log: &mut [u64],
     next: &mut [u16],
     stale: &mut [u8],
     heads: &mut [u16],
 ) -> Queue
-    requires { ⌜ CanLoad (now list) (now log) (now next) (now stale) (now heads) ⌝ }
-    ensures { λ r. ⌜ Holds (now (list .entry)) (now (log .exit)) (now (next .exit)) (now (stale .exit)) (now (heads .exit)) r ⌝ }
+    requires { ⌜ CanLoad (now list) (now kept) (now log) (now next) (now stale) (now heads) ⌝ }
+    ensures { λ r. ⌜ Holds (framesOf (now (list .entry)) (now (kept .entry))) (now (log .exit)) (now (next .exit)) (now (stale .exit)) (now (heads .exit)) r ⌝ }
 {
     let n = list.len();
-    copy_back(list, log);
-    index(log, next, stale, heads, n);
+    copy_back(list, kept, log, stale);
+    index(log, next, heads, n);
     Queue {
         resident: n,
         low: 0,
@@ -230,20 +268,23 @@ pub fn load(
     }
 }
 
-// The resident pages, most recently used first, at the front of a list.
-pub fn save(log: &[u64], stale: &[u8], q: Queue, list: &mut [u64])
-    requires { ⌜ CanSave (now log) (now stale) q (now list) ⌝ }
-    ensures { λ _. ⌜ now (list .exit) ≡ over (residents (now (log .entry)) q) (now (list .entry)) ⌝ }
+// The resident frames, most recently used first, at the front of two columns.
+pub fn save(log: &[u64], stale: &[u8], q: Queue, list: &mut [u64], kept: &mut [bool])
+    requires { ⌜ CanSave (now log) (now stale) q (now list) (now kept) ⌝ }
+    ensures { λ _. ⌜ now (list .exit) ≡ over (pagesOf (frames (now (log .entry)) (now (stale .entry)) q)) (now (list .entry)) ⌝ }
+    ensures { λ _. ⌜ now (kept .exit) ≡ over (marksOf (frames (now (log .entry)) (now (stale .entry)) q)) (now (kept .entry)) ⌝ }
 {
     let low = q.low;
     let mut i = 0;
     let mut r = q.now;
     while low < r {
         r -= 1;
-        if stale[r] != 0 {
+        let s = stale[r];
+        if s == 1 {
             continue;
         }
         list[i] = log[r];
+        kept[i] = s == 2;
         i += 1;
     }
 }

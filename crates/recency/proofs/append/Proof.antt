@@ -22,6 +22,7 @@ append-spec =
     (λ c. search needs)
     (λ c. search needs)
     (λ c. search needs)
+    (λ c κs. search needs)
     (λ c. search append-stales)
     (λ c κs. search append-link)
     (λ c. search needs)

@@ -1,14 +1,14 @@
 -- `recency::save` meets its contract. Assumes nothing.
 use borrow.Author.Needs.{needs}
-use Rattle.recency.proofs.Saving.{Saving, saving-none, saving-reads, saving-stales, saving-writes, saving-fits, saving-adds, saving-passed, saving-more, saving-all}
+use Rattle.recency.proofs.Saving.{Saving, saving-none, saving-reads, saving-stales, saving-writes, saving-keeps, saving-fits, saving-adds, saving-passed, saving-more, saving-pages, saving-marks}
 use Rattle.recency.proofs.save.Statement.{statement}
 use Rattle.recency.proofs.save.Tie as tie
 
 abbrev Inv-loop : tie.InvT-loop
-Inv-loop log stale list₀ low i₀ r₀ list i r = Saving log low r₀ list₀ list i r
+Inv-loop log stale list₀ kept₀ low i₀ r₀ list kept i r = Saving log stale low r₀ list₀ kept₀ list kept i r
 
 abbrev μ-loop : tie.MeasureT-loop
-μ-loop log stale list₀ low i₀ r₀ list i r = r
+μ-loop log stale list₀ kept₀ low i₀ r₀ list kept i r = r
 
 pub save-spec : {M : Type 1} → statement M
 save-spec =
@@ -25,8 +25,10 @@ save-spec =
     (λ c. search saving-reads)
     (λ c. search saving-fits)
     (λ c. search saving-writes)
+    (λ c. search saving-keeps)
     (λ c. search saving-adds)
     (λ c. search needs)
     (λ c. search saving-more)
     (λ c. search needs)
-    (λ c. search saving-all))
+    (λ c. search needs)
+    (λ c. (search saving-pages, search saving-marks)))
