@@ -6,7 +6,7 @@ use native.Mathlib.Omega.{arith}
 use lib.ListN.{length}
 use Rattle.pages.specs.Rows.{over}
 use Rattle.pages.proofs.Rows.{over-more}
-use Rattle.recency.specs.Held.{residents}
+use Rattle.recency.specs.Held.{frames}
 use Rattle.recency.specs.declared.Queue.{Queue}
 use Rattle.trace.specs.Layout.{itemAt, itemsOf, itemsFrom}
 use Rattle.trace.specs.declared.Item.{Item}
@@ -26,13 +26,13 @@ use Rattle.lru.proofs.Words.{words-append, length-words}
 -- An outcome stands in the events, and an item's outcome after it: so do both, one after the other.
 turned-then : {o p : Outcome} {c : Tally} {K : ℕ} {r : Played} {e : Effect} {events log next stale heads events′ log′ next′ stale′ heads′ events″ : List ℕ}
     → Turned o c K events r log next stale heads events′ → Stepped p K (r .tally .fetches) events′ e log′ next′ stale′ heads′ events″
-    → r .tally .fetches ≡ length (o .events) → 3 * (length (o .events) + length (p .events)) ≤ length events
+    → r .tally .fetches ≡ length (o .events) → 4 * (length (o .events) + length (p .events)) ≤ length events
     → Turned (o then p) (tallied c p) K events (record { tally = countedOf (r .tally) (e .fetched) (e .evicted); queue = e .queue }) log′ next′ stale′ heads′ events″
 unfolding _then_ tallied
 turned-then {o} {p} {r = r} {events = events} d s f l =
     let w = words (o .events) in
     let v = words (p .events) in
-    let n : 3 * r .tally .fetches ≡ length w = rw (f, length-words (o .events)) in
+    let n : 4 * r .tally .fetches ≡ length w = rw (f, length-words (o .events)) in
     record {
       holds = s .holds;
       within = s .within;
@@ -49,7 +49,7 @@ turned-then {o} {p} {r = r} {events = events} d s f l =
 pub record Running (f : List ℕ) (n K : ℕ) (log₀ next₀ stale₀ heads₀ : List ℕ) (q₀ : Queue)
     (events₀ log next stale heads events : List ℕ) (t : Tally) (q : Queue) (i : ℕ) : Type 0 where
   pub within : i ≤ n
-  pub done : Plays f i K (residents log₀ q₀) events₀ (record { tally = t; queue = q }) log next stale heads events
+  pub done : Plays f i K (frames log₀ stale₀ q₀) events₀ (record { tally = t; queue = q }) log next stale heads events
   pub items-are : t .items ≡ i
   pub fetched : t .fetches ≤ i
   pub evicted : t .evictions ≤ i
@@ -67,7 +67,7 @@ running-none can =
     record {
       within = omega arith;
       done = record {
-        holds = record { held = can .ready .held; pages-are = refl };
+        holds = record { held = can .ready .held; frames-are = refl };
         within = can .ready .within;
         events-are = refl;
         tally-is = refl;
@@ -104,18 +104,18 @@ module _ {f : List ℕ} {n K : ℕ} {log₀ next₀ stale₀ heads₀ : List ℕ
 
   -- One item more is done.
   pub running-more : {x : Item} {e : Effect} {t′ : Tally} {log′ next′ stale′ heads′ events′ : List ℕ} → i < n → x ≡ itemAt f i
-      → Stepped (step K (residents log q) x) K (t .fetches) events e log′ next′ stale′ heads′ events′ → t′ ≡ countedOf t (e .fetched) (e .evicted)
+      → Stepped (step K (frames log stale q) x) K (t .fetches) events e log′ next′ stale′ heads′ events′ → t′ ≡ countedOf t (e .fetched) (e .evicted)
       → length log′ ≡ length log → length next′ ≡ length next → length stale′ ≡ length stale
       → length heads′ ≡ length heads → length events′ ≡ length events
       → Running f n K log₀ next₀ stale₀ heads₀ q₀ events₀ log′ next′ stale′ heads′ events′ t′ (e .queue) (i + 1)
   running-more {x} {e} {t′} {log′} {next′} {stale′} {heads′} {events′} h y g w a b c d z =
-      let s = residents log₀ q₀ in
+      let s = frames log₀ stale₀ q₀ in
       let u = itemsFrom f 0 i in
       let S = (replay K s u) .final in
       let p = step K S x in
-      let g′ : Stepped p K (t .fetches) events e log′ next′ stale′ heads′ events′ = rw (r .done .holds .pages-are) at g in
+      let g′ : Stepped p K (t .fetches) events e log′ next′ stale′ heads′ events′ = rw (r .done .holds .frames-are) at g in
       let k : t .fetches ≡ length ((replay K s u) .events) = rw (r .done .tally-is) (tally-counts K s u .fetches-are) in
-      let l : 3 * (length ((replay K s u) .events) + length (p .events)) ≤ length events₀ =
+      let l : 4 * (length ((replay K s u) .events) + length (p .events)) ≤ length events₀ =
       omega (arith, step-flagged K S x .fetches-are, one-most (isFetch (p .events)), r .fetched, can .room)
       in
       record {
@@ -132,5 +132,5 @@ module _ {f : List ℕ} {n K : ℕ} {log₀ next₀ stale₀ heads₀ : List ℕ
       }
 
   -- All items are done.
-  pub running-all : n ≤ i → Plays f n K (residents log₀ q₀) events₀ (record { tally = t; queue = q }) log next stale heads events
+  pub running-all : n ≤ i → Plays f n K (frames log₀ stale₀ q₀) events₀ (record { tally = t; queue = q }) log next stale heads events
   running-all h = let e : i ≡ n = omega (arith, r .within) in rw e at (r .done)

@@ -5,7 +5,7 @@ use mathlib.Core.Bool.{Bool, true, false, _||_, _&&_, or-false, or-true, false�
 use mathlib.Core.List.{List, [], _∷_, _++_}
 use native.Mathlib.Omega.{arith}
 use native.Mathlib.Numerals.{add-one}
-use lib.ListN.{length, getD, take, drop, set, length-set}
+use lib.ListN.{length, getD, take, drop, set, length-set, length-map}
 use lib.Seq.{length-take-le, getD-set-same, getD-set-other, take-suc-set, drop-append-le}
 use lib.Dec.{eqb, ltb}
 use borrow.Author.Tests.{lt-ltb, le-ltb, ltb-true, ltb-false, eq-eqb, ne-eqb, eqb-false}
@@ -13,7 +13,7 @@ use Rattle.pages.specs.Pages.{has, remove, Distinct}
 use Rattle.pages.proofs.Choice.{split, same}
 use Rattle.pages.proofs.Added.{has-join, distinct-reverse}
 use Rattle.pages.proofs.Pages.{length-move, remove-absent, removed, has-remove}
-use Rattle.frames.specs.Frames.{framed, framesBy, dirty, taken}
+use Rattle.frames.specs.Frames.{framed, pagesOf, framesBy, dirty, taken}
 use Rattle.frames.specs.declared.Frame.{Frame}
 use Rattle.frames.proofs.By.{pages-by, by-same, dirty-by, dirty-absent, taken-by}
 use Rattle.chains.specs.Chains.{at, newest}
@@ -41,8 +41,16 @@ module _ {log next stale heads : List ℕ} {q : Queue} (h : Held log next stale 
       (λ t. let z : e ≡ newest (at log) p (q .now) = rw t at k in ap (ltb (q .low)) (sym z))
       (λ t. let z : e ≡ 0 = rw t at k in t ∙ sym (rw z (le-ltb (q .low) 0 (omega arith))))
 
-  pub length-held : length (residents log q) ≡ q .resident
+  pub has-frames : (p : ℕ) {e : ℕ} → e ≡ lastFrom (q .low) log (q .now) p → has p (pagesOf (frames log stale q)) ≡ ltb (q .low) e
+  unfolding frames
+  has-frames p k = rw (pages-by (wrote log stale (q .low) (q .now)) (residents log q)) (has-held p k)
+
+  length-held : length (residents log q) ≡ q .resident
   length-held = h .logged .count
+
+  pub length-frames : length (frames log stale q) ≡ q .resident
+  unfolding frames
+  length-frames = length-map (residents log q) (λ (p : ℕ). framed p (wrote log stale (q .low) (q .now) p)) ∙ length-held
 
   -- The rows hold the cache after an eviction too.
   pub gone-held : {r : Evicted} → Gone log stale q r → Held log next stale heads (r .queue)

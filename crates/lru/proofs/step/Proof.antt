@@ -13,7 +13,7 @@ used-requires c κs =
 
 -- There is room for an event.
 put-requires : tie.Need-put-requires
-put-requires c κs = c .before .before .before .before .before .before .before .before .before .before .before .before .before .before .before .before .before .before .before .before .before .before .before .before .before .before .before .before .before .pre .room
+put-requires c κs = c .before .before .before .before .before .before .before .before .before .before .before .before .before .before .before .before .before .before .before .before .before .before .before .before .before .before .before .before .before .before .before .pre .room
 
 hit : tie.Need-returns
 hit c =
@@ -25,13 +25,15 @@ hit c =
 
 fetch : tie.Need-returns-2
 fetch c =
-    let told = c .before .before .before in
-    let miss = told .before .before in
+    let told = c .before .before in
+    let priced = told .before .before in
+    let miss = priced .before .before in
     let done = miss .before .before .before .before .before .before .before .before .before .before in
     let made = done .before .before .before .before .before .before in
     let found = made .before .before .before in
     let start = found .before .before .before .before .before .before .before .before .before in
-    stepped-fetch (start .pre) (start .args .x) (found .find .ensures) (made .make-room .ensures) (done .used .ensures) (miss .if1 .left) (told .put .ensures)
+    stepped-fetch (start .pre) (start .args .x) (found .find .ensures) (made .make-room .ensures) (done .used .ensures) (miss .if1 .left)
+    (priced .cost .ensures) (told .put .ensures)
 
 pub step-spec : {M : Type 1} → statement M
 step-spec =
@@ -46,6 +48,7 @@ step-spec =
     (λ c. search needs)
     (λ c. search needs)
     hit
+    (λ c κs. search needs)
     put-requires
     (λ c. search needs)
     (λ c. search needs)
