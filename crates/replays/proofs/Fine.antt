@@ -9,6 +9,8 @@ use lib.Dec.{ltb}
 use borrow.Author.Tests.{ltb-false, le-ltb}
 use Rattle.pages.specs.Pages.{has, Distinct}
 use Rattle.pages.proofs.Choice.{or-false}
+use Rattle.frames.specs.Frames.{pagesOf}
+use Rattle.frames.proofs.Columns.{pages-take}
 use Rattle.trace.specs.Rules.{reserved}
 use Rattle.replays.specs.Replay.{twice, badStart}
 use Rattle.replays.specs.Promises.{StartsFine}
@@ -21,13 +23,14 @@ distinct-once (p ∷ l) e = let z = or-false (has p l) (twice l) e in (z .0, dis
 -- A start that is not refused is a list of distinct pages with room for K, and the reserved page is not in it.
 pub starts-fine : StartsFine
 unfolding badStart
-starts-fine K cache resident e =
+starts-fine K frames resident e =
+    let cache = pagesOf frames in
     let s = take resident cache in
     let a = or-false (ltb K resident) (ltb (length cache) K || (twice s || has reserved s)) e in
     let b = or-false (ltb (length cache) K) (twice s || has reserved s) (a .1) in
     let d = or-false (twice s) (has reserved s) (b .1) in
     let h = ltb-false K resident (a .0) in
-    (record { distinct = distinct-once s (d .0); room = rw length-take (omega arith) }, d .1)
+    rw (pages-take resident frames) (record { distinct = rw (pages-take resident frames) (distinct-once s (d .0)); room = rw length-take (omega arith) }, d .1)
 
 once-distinct : (l : List ℕ) → Distinct l → twice l ≡ false
 unfolding twice

@@ -1,4 +1,4 @@
--- What the functions that judge a start are told. Assumes nothing.
+-- What the functions that judge a start are told, and that work on columns. Assumes nothing.
 use Prim.Native.Nat.{ℕ, _≤_}
 use mathlib.Core.List.{List}
 use lib.ListN.{length}

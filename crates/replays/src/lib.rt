@@ -1,4 +1,4 @@
-// A replay of a trace file through a cache that evicts the least recently used page: what is refused, and what is answered.
+// A replay of a trace file through a cache that evicts the least recently used page: what is refused, and what is answered. The cache is two columns, pages and marks.
 use limits::Cache;
 use limits::CacheMade;
 use trace::Item;
@@ -10,9 +10,10 @@ ghost use lib.ListN.{length};
 ghost use Rattle.limits.proofs.Numbers.{cacheMost};
 ghost use Rattle.pages.specs.Rows.{over};
 ghost use Rattle.trace.specs.declared.Verdict.the-variants.{Sound};
+ghost use Rattle.frames.specs.Frames.{pagesOf, marksOf, framesOf};
 ghost use Rattle.lru.specs.Lru.{words};
 ghost use Rattle.lru.specs.Passes.{Rows};
-ghost use Rattle.replays.specs.Replay.{twice, badStart, replayVerdict, replayOf, summaryOf, replayAnswer, cacheAfter, eventsAfter};
+ghost use Rattle.replays.specs.Replay.{twice, badStart, replayVerdict, replayOf, summaryOf, replayAnswer, framesAfter, eventsAfter};
 ghost use Rattle.replays.specs.Passes.{CanSift, CanStart};
 
 // What is told of a replay.
@@ -91,7 +92,7 @@ fn judge(
     if bad_start(k as usize, cache, resident, next, heads) {
         return Verdict::Faulty(Reason::BadStart);
     }
-    if 3 * h.items <= room as u64 {
+    if 4 * h.items <= room as u64 {
         return Verdict::Sound;
     }
     Verdict::Faulty(Reason::NoRoom)
@@ -102,6 +103,7 @@ fn replay_sound(
     file: &[u8],
     k: u64,
     cache: &mut [u64],
+    kept: &mut [bool],
     resident: usize,
     events: &mut [u64],
     log: &mut [u64],
@@ -110,10 +112,12 @@ fn replay_sound(
     heads: &mut [u16],
 ) -> Summary
     requires { ⌜ replayVerdict (now file) k (now cache) resident (length (now events)) ≡ Sound ⌝ }
+    requires { ⌜ length (now kept) ≡ length (now cache) ⌝ }
     requires { ⌜ Rows (now log) (now next) (now stale) (now heads) ⌝ }
-    ensures { λ r. ⌜ r ≡ summaryOf (now (file .entry)) k (now (cache .entry)) resident ⌝ }
-    ensures { λ _. ⌜ now (cache .exit) ≡ over (replayOf (now (file .entry)) k (now (cache .entry)) resident .final) (now (cache .entry)) ⌝ }
-    ensures { λ _. ⌜ now (events .exit) ≡ over (words (replayOf (now (file .entry)) k (now (cache .entry)) resident .events)) (now (events .entry)) ⌝ }
+    ensures { λ r. ⌜ r ≡ summaryOf (now (file .entry)) k (framesOf (now (cache .entry)) (now (kept .entry))) resident ⌝ }
+    ensures { λ _. ⌜ now (cache .exit) ≡ over (pagesOf (replayOf (now (file .entry)) k (framesOf (now (cache .entry)) (now (kept .entry))) resident .final)) (now (cache .entry)) ⌝ }
+    ensures { λ _. ⌜ now (kept .exit) ≡ over (marksOf (replayOf (now (file .entry)) k (framesOf (now (cache .entry)) (now (kept .entry))) resident .final)) (now (kept .entry)) ⌝ }
+    ensures { λ _. ⌜ now (events .exit) ≡ over (words (replayOf (now (file .entry)) k (framesOf (now (cache .entry)) (now (kept .entry))) resident .events)) (now (events .entry)) ⌝ }
 {
     let h = trace::read::header_at(file);
     let f = lru::run(
@@ -121,6 +125,7 @@ fn replay_sound(
         h.items as usize,
         k as usize,
         cache,
+        kept,
         resident,
         events,
         log,
@@ -138,11 +143,12 @@ fn replay_sound(
     }
 }
 
-// `replay`, in rows that are lent.
+// `replay_columns`, in rows that are lent.
 fn replay_in(
     file: &[u8],
     k: u64,
     cache: &mut [u64],
+    kept: &mut [bool],
     resident: usize,
     events: &mut [u64],
     log: &mut [u64],
@@ -150,10 +156,12 @@ fn replay_in(
     stale: &mut [u8],
     heads: &mut [u16],
 ) -> Replayed
+    requires { ⌜ length (now kept) ≡ length (now cache) ⌝ }
     requires { ⌜ Rows (now log) (now next) (now stale) (now heads) ⌝ }
-    ensures { λ r. ⌜ r ≡ replayAnswer (now (file .entry)) k (now (cache .entry)) resident (length (now (events .entry))) ⌝ }
-    ensures { λ _. ⌜ now (cache .exit) ≡ cacheAfter (now (file .entry)) k (now (cache .entry)) resident (length (now (events .entry))) ⌝ }
-    ensures { λ _. ⌜ now (events .exit) ≡ eventsAfter (now (file .entry)) k (now (cache .entry)) resident (now (events .entry)) ⌝ }
+    ensures { λ r. ⌜ r ≡ replayAnswer (now (file .entry)) k (framesOf (now (cache .entry)) (now (kept .entry))) resident (length (now (events .entry))) ⌝ }
+    ensures { λ _. ⌜ now (cache .exit) ≡ pagesOf (framesAfter (now (file .entry)) k (framesOf (now (cache .entry)) (now (kept .entry))) resident (length (now (events .entry)))) ⌝ }
+    ensures { λ _. ⌜ now (kept .exit) ≡ marksOf (framesAfter (now (file .entry)) k (framesOf (now (cache .entry)) (now (kept .entry))) resident (length (now (events .entry)))) ⌝ }
+    ensures { λ _. ⌜ now (events .exit) ≡ eventsAfter (now (file .entry)) k (framesOf (now (cache .entry)) (now (kept .entry))) resident (now (events .entry)) ⌝ }
 {
     match judge(file, k, cache, resident, events.len(), next, heads) {
         Verdict::Faulty(r) => Replayed::Refused(trace::told(r), resident as u64),
@@ -161,6 +169,7 @@ fn replay_in(
             file,
             k,
             cache,
+            kept,
             resident,
             events,
             log,
@@ -171,17 +180,21 @@ fn replay_in(
     }
 }
 
-// Replays a trace file through a cache of k pages that starts as the first `resident` places of the buffer, writes three numbers for each fetch, and answers the tally; or refuses, and changes nothing.
-pub fn replay(
+// Replays a trace file through a cache of k frames that starts as the first `resident` places of two columns, writes four numbers for each fetch, and answers the tally;
+// or refuses, and changes nothing.
+pub fn replay_columns(
     file: &[u8],
     k: u64,
     cache: &mut [u64],
+    kept: &mut [bool],
     resident: usize,
     events: &mut [u64],
 ) -> Replayed
-    ensures { λ r. ⌜ r ≡ replayAnswer (now (file .entry)) k (now (cache .entry)) resident (length (now (events .entry))) ⌝ }
-    ensures { λ _. ⌜ now (cache .exit) ≡ cacheAfter (now (file .entry)) k (now (cache .entry)) resident (length (now (events .entry))) ⌝ }
-    ensures { λ _. ⌜ now (events .exit) ≡ eventsAfter (now (file .entry)) k (now (cache .entry)) resident (now (events .entry)) ⌝ }
+    requires { ⌜ length (now kept) ≡ length (now cache) ⌝ }
+    ensures { λ r. ⌜ r ≡ replayAnswer (now (file .entry)) k (framesOf (now (cache .entry)) (now (kept .entry))) resident (length (now (events .entry))) ⌝ }
+    ensures { λ _. ⌜ now (cache .exit) ≡ pagesOf (framesAfter (now (file .entry)) k (framesOf (now (cache .entry)) (now (kept .entry))) resident (length (now (events .entry)))) ⌝ }
+    ensures { λ _. ⌜ now (kept .exit) ≡ marksOf (framesAfter (now (file .entry)) k (framesOf (now (cache .entry)) (now (kept .entry))) resident (length (now (events .entry)))) ⌝ }
+    ensures { λ _. ⌜ now (events .exit) ≡ eventsAfter (now (file .entry)) k (framesOf (now (cache .entry)) (now (kept .entry))) resident (now (events .entry)) ⌝ }
 {
     let mut log = [0u64; recency::PLACES];
     let mut next = [0u16; recency::PLACES];
@@ -191,6 +204,7 @@ pub fn replay(
         file,
         k,
         cache,
+        kept,
         resident,
         events,
         &mut log,
