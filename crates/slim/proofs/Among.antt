@@ -9,7 +9,7 @@ use Rattle.pages.specs.Pages.{add}
 use Rattle.pages.proofs.Rows.{flat-append}
 use Rattle.trace.specs.declared.Item.{Item}
 use Rattle.slim.specs.Epochs.{touched, epochs}
-use Rattle.slim.specs.Keep.{keeps, kept, reduce}
+use Rattle.slim.specs.Keep.{keeps, kept, chosen}
 use Rattle.slim.specs.English.{Among, IsKept, ReducedIsKept}
 use Rattle.slim.specs.declared.Mode.{Mode}
 use Rattle.slim.proofs.Kept.{kept-exactly}
@@ -63,7 +63,7 @@ module _ (m : Mode) (i : Item) where
       let a = stands-kept (k .before) (k .after) (k .keeps-it) in
       rw (k .stands, map-append, flat-append) (Memᴰ·append-right (flat (map (kept m []) (k .earlier))) (Memᴰ·append-left (flat (map (kept m []) (k .later))) a))
 
--- An item of the reduction is an item of an epoch that is kept there, and the other way round.
+-- An item that a reduction keeps is an item of an epoch that is kept there, and the other way round.
 pub reduced-kept : ReducedIsKept
-unfolding reduce
+unfolding chosen
 reduced-kept m B t i = (among-kept m i (epochs B t), kept-among m i (epochs B t))

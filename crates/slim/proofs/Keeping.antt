@@ -5,7 +5,7 @@ use mathlib.Core.Bool.{Bool, true, false, cond, or-true}
 use mathlib.Core.List.{List, [], _∷_, _++_, append-nil, append-assoc}
 use native.Mathlib.Nat.{add-zero}
 use native.Mathlib.Omega.{arith}
-use lib.ListN.{length, getD, take, length-append}
+use lib.ListN.{length, getD, take, set, length-append, length-set}
 use lib.Seq.{sets, length-take-le, take-append-seam}
 use lib.Dec.{ltb, eqb}
 use borrow.Author.Tests.{ltb-true, lt-ltb, le-ltb, eqb-false}
@@ -18,11 +18,12 @@ use Rattle.trace.specs.declared.Item.{Item}
 use Rattle.trace.proofs.Items.{from-turn, from-none}
 use Rattle.trace.proofs.Output.{Wrote, wrote-none, wrote-one, wrote-then, wrote-long}
 use Rattle.slim.specs.Epochs.{pages, touched}
-use Rattle.slim.specs.Keep.{isFirst, isLast, keeps, kept}
-use Rattle.slim.specs.Passes.{lastPlace, Noted, CanKeep, keptThere}
+use Rattle.slim.specs.Keep.{isFirst, isLast, keeps, kept, owe, lost}
+use Rattle.slim.specs.Passes.{lastPlace, Noted, CanKeep, keptThere, Owes, Flags}
 use Rattle.slim.specs.declared.Mode.the-variants.{Demand}
 use Rattle.slim.proofs.Kept.{first-kept, last-kept}
-use Rattle.pages.proofs.Table.{has-taken, has-within}
+use Rattle.slim.proofs.Flags.{place-taken, owes-new, owes-more}
+use Rattle.pages.proofs.Table.{has-taken, has-within, place-within}
 use Rattle.filter.specs.Filter.{Notes, FirstNoted}
 use Rattle.filter.proofs.Noting.{notes-long, notes-told}
 use Rattle.filter.proofs.Finding.{first-after}
@@ -55,10 +56,17 @@ pub record Left (F last : List ℕ) (k c : ℕ) (v : List Item) : Type 0 where
   pub filter-is : F ≡ touched (take c F) v
   pub last-noted : Noted k v F last
 
--- A turn passes the item x and leaves v: the filter then has c′ pages, and the items a, which are x or none, are kept.
-record Turn (F last : List ℕ) (k c : ℕ) (x : Item) (v : List Item) (c′ : ℕ) (a : List Item) : Type 0 where
+-- The flags say what is owed before the items v, after which it is `all`.
+pub record Owing (F flags : List ℕ) (c : ℕ) (v : List Item) (all : List ℕ) : Type 0 where
+  pub now-owed : List ℕ
+  pub owes : Owes (take c F) flags now-owed
+  pub then-owed : lost Demand (take c F) now-owed v ≡ all
+
+-- A turn passes the item x and leaves v: the filter then has c′ pages, the items a, which are x or none, are kept, and the flags say what is owed.
+record Turn (F last flags : List ℕ) (k c : ℕ) (x : Item) (v : List Item) (c′ : ℕ) (a : List Item) (flags′ : List ℕ) : Type 0 where
   next : Left F last (k + 1) c′ v
   kept-are : kept Demand (take c F) (x ∷ v) ≡ a ++ kept Demand (take c′ F) v
+  owes : (owed : List ℕ) → Owes (take c F) flags owed → Owing F flags′ c′ v (lost Demand (take c F) owed (x ∷ v))
 
 module _ {F last : List ℕ} {k c : ℕ} {x : Item} {v : List Item} (l : Left F last k c (x ∷ v)) where
   -- The filter after the stretch, from the item's page on.
@@ -67,10 +75,11 @@ module _ {F last : List ℕ} {k c : ℕ} {x : Item} {v : List Item} (l : Left F 
   after = l .filter-is
 
   -- A turn keeps what `keeps` says.
-  turn : {c′ : ℕ} (a : List Item) → length (add (x .page) (take c F)) ≡ c′ → ((u : List Item) → consIf (keeps Demand (take c F) x v) x u ≡ a ++ u)
-      → Turn F last k c x v c′ a
-  unfolding has pages lastPlace kept
-  turn {c′} a e f =
+  turn : {c′ : ℕ} (a : List Item) {flags flags′ : List ℕ} → length (add (x .page) (take c F)) ≡ c′ → ((u : List Item) → consIf (keeps Demand (take c F) x v) x u ≡ a ++ u)
+      → ((owed : List ℕ) → Owes (take c F) flags owed → Owes (add (x .page) (take c F)) flags′ (owe (keeps Demand (take c F) x v) x owed))
+      → Turn F last flags k c x v c′ a flags′
+  unfolding has pages lastPlace kept lost
+  turn {c′} a e f g =
       let s = add (x .page) (take c F) in
       let q : s ≡ take c′ F = sym (rw e at (filter-begins F s v after)) in
       record {
@@ -80,6 +89,11 @@ module _ {F last : List ℕ} {k c : ℕ} {x : Item} {v : List Item} (l : Left F 
           last-noted = λ p h. l .last-noted p (rw (h, or-true)) ∙ rw h (omega arith);
         };
         kept-are = f (kept Demand s v) ∙ ap (λ (t : List ℕ). a ++ kept Demand t v) q;
+        owes = λ owed o. record {
+          now-owed = owe (keeps Demand (take c F) x v) x owed;
+          owes = rw q at (g owed o);
+          then-owed = ap (λ (t : List ℕ). lost Demand t (owe (keeps Demand (take c F) x v) x owed) v) (sym q);
+        };
       }
 
   -- Its page is in the filter after the stretch, where no page before it is new.
@@ -110,28 +124,43 @@ module _ {F last : List ℕ} {k c : ℕ} {x : Item} {v : List Item} (l : Left F 
       stays = rw (add-old (x .page) (take c F) old) (length-take-le c F (l .before))
 
       -- An item whose page is in the filter is kept if it is the last of its page.
-      turn-last : getD last j 0 ≡ k → Turn F last k c x v c (x ∷ [])
+      turn-last : {flags : List ℕ} → getD last j 0 ≡ k → Turn F last flags k c x v c (x ∷ []) flags
       turn-last e =
           let n : has (x .page) (pages v) ≡ false = split (has (x .page) (pages v)) (λ a. absurd (omega (arith, rw a at noted))) (λ a. a) in
-          turn (x ∷ []) stays (λ u. rw (last-kept Demand (take c F) x v n))
+          let kk = last-kept Demand (take c F) x v n in
+          turn (x ∷ []) stays (λ u. rw kk) (λ owed o. rw (kk, add-old (x .page) (take c F) old) o)
 
       -- Else it is not.
-      turn-skip : (getD last j 0 ≡ k → ⊥) → Turn F last k c x v c []
+      skipped : (getD last j 0 ≡ k → ⊥) → keeps Demand (take c F) x v ≡ false
       unfolding isFirst isLast keeps
-      turn-skip e =
+      skipped e =
           let a : has (x .page) (pages v) ≡ true = split (has (x .page) (pages v)) (λ a. a) (λ n. absurd (e (rw n at noted ∙ add-zero k))) in
-          turn [] stays (λ u. rw (old, a))
+          rw (old, a)
+
+      turn-skip : {flags : List ℕ} → (getD last j 0 ≡ k → ⊥) → x .written ≡ false → Turn F last flags k c x v c [] flags
+      turn-skip e r =
+          let kk = skipped e in
+          turn [] stays (λ u. rw kk) (λ owed o. rw (kk, r, add-old (x .page) (take c F) old) o)
+
+      -- If it was a write, its page is owed one.
+      turn-drop : {flags : List ℕ} → (getD last j 0 ≡ k → ⊥) → x .written ≡ true → j < length flags → Turn F last flags k c x v c [] (set flags j 1)
+      turn-drop e r g =
+          let kk = skipped e in
+          turn [] stays (λ u. rw kk)
+          (λ owed o. rw (kk, r, add-old (x .page) (take c F) old) (owes-more o (x .page) old (q ∙ sym (place-taken (x .page) c F old)) g))
 
     -- An item whose page is not in the filter is kept.
-    turn-new : c ≤ j → Turn F last k c x v (c + 1) (x ∷ [])
-    turn-new h =
+    turn-new : {flags : List ℕ} → c ≤ j → c < length flags → Turn F last flags k c x v (c + 1) (x ∷ []) (set flags c 0)
+    turn-new h g =
         let n : has (x .page) (take c F) ≡ false = known ∙ le-ltb j c h in
-        turn (x ∷ []) (omega (arith, length-new (x .page) (take c F) n, length-take-le c F (l .before))) (λ u. rw (first-kept Demand (take c F) x v n))
+        let kk = first-kept Demand (take c F) x v n in
+        turn (x ∷ []) (omega (arith, length-new (x .page) (take c F) n, length-take-le c F (l .before))) (λ u. rw kk)
+        (λ owed o. rw kk (owes-new o (x .page) n (length-take-le c F (l .before)) g))
 
 -- ---- the loop: up to item k the stretch is passed, and m items are in the output
 
 -- What is kept so far is written behind what was done, and with what is kept of the rest it is all.
-pub record Keeping (file : List ℕ) (from end had done : ℕ) (filter last : List ℕ) (held : ℕ) (out₀ : List ℕ) (k c m skip : ℕ) (out : List ℕ) : Type 0 where
+pub record Keeping (file : List ℕ) (from end had done : ℕ) (filter last : List ℕ) (held : ℕ) (flags₀ out₀ : List ℕ) (k c m skip : ℕ) (flags out : List ℕ) : Type 0 where
   pub within : k ≤ end
   pub left : Left filter last k c (itemsFrom file k (end - k))
   pub so-far : List Item
@@ -141,12 +170,16 @@ pub record Keeping (file : List ℕ) (from end had done : ℕ) (filter last : Li
   pub few : m + from ≤ done + k
   pub room : 23 + 19 * (done + (end - from)) ≤ length out
   pub out-long : length out ≡ length out₀
+  pub flags-long : length filter ≤ length flags
+  pub flags-same : length flags ≡ length flags₀
+  pub owing : (owed : List ℕ) → Owes (take had filter) flags₀ owed
+      → Owing filter flags c (itemsFrom file k (end - k)) (lost Demand (take had filter) owed (itemsFrom file from (end - from)))
   pub skipped : (i : ℕ) → k ≤ i → i < skip → has i (take held last) ≡ false
 
 -- Nothing is kept yet.
-pub keeping-none : {file : List ℕ} {from end had done : ℕ} {filter last : List ℕ} (held : ℕ) {out : List ℕ} → CanKeep file from end had done filter last out
-    → Keeping file from end had done filter last held out from had done from out
-keeping-none {done = done} held {out} p = record {
+pub keeping-none : {file : List ℕ} {from end had done : ℕ} {filter last : List ℕ} (held : ℕ) {flags out : List ℕ} → CanKeep file from end had done filter last flags out
+    → Keeping file from end had done filter last held flags out from had done from flags out
+keeping-none {done = done} held {out = out} p = record {
   within = p .within;
   left = record { before = p .before; filter-is = p .filter-is; last-noted = p .last-noted };
   so-far = [];
@@ -156,11 +189,14 @@ keeping-none {done = done} held {out} p = record {
   few = omega arith;
   room = p .room;
   out-long = refl;
+  flags-long = p .flags-long;
+  flags-same = refl;
+  owing = λ owed o. record { now-owed = owed; owes = o; then-owed = refl };
   skipped = λ i a b. absurd (omega arith);
 }
 
-module _ {file : List ℕ} {from end had done : ℕ} {filter last : List ℕ} {held : ℕ} {out₀ : List ℕ} {k c m skip : ℕ} {out : List ℕ}
-    (r : Keeping file from end had done filter last held out₀ k c m skip out) where
+module _ {file : List ℕ} {from end had done : ℕ} {filter last : List ℕ} {held : ℕ} {flags₀ out₀ : List ℕ} {k c m skip : ℕ} {flags out : List ℕ}
+    (r : Keeping file from end had done filter last held flags₀ out₀ k c m skip flags out) where
   module _ (h : k < end) {x : Item} (e : x ≡ itemAt file k) where
     -- What is left is the item that was read, and what is left after it.
     rest : itemsFrom file k (end - k) ≡ x ∷ itemsFrom file (k + 1) (end - (k + 1))
@@ -170,10 +206,11 @@ module _ {file : List ℕ} {from end had done : ℕ} {filter last : List ℕ} {h
     here = rw rest at (r .left)
 
     -- A turn is done that keeps the items a.
-    passed : {c′ m′ skip′ : ℕ} {a : List Item} {out′ : List ℕ} → Turn filter last k c x (itemsFrom file (k + 1) (end - (k + 1))) c′ a → Wrote m a out out′
-        → m′ ≡ m + length a → length a ≤ 1 → ((i : ℕ) → k + 1 ≤ i → i < skip′ → has i (take held last) ≡ false)
-        → Keeping file from end had done filter last held out₀ (k + 1) c′ m′ skip′ out′
-    passed {a = a} t w n s u = record {
+    passed : {c′ m′ skip′ : ℕ} {a : List Item} {flags′ out′ : List ℕ} → Turn filter last flags k c x (itemsFrom file (k + 1) (end - (k + 1))) c′ a flags′
+        → Wrote m a out out′ → m′ ≡ m + length a → length a ≤ 1 → length flags′ ≡ length flags
+        → ((i : ℕ) → k + 1 ≤ i → i < skip′ → has i (take held last) ≡ false)
+        → Keeping file from end had done filter last held flags₀ out₀ (k + 1) c′ m′ skip′ flags′ out′
+    passed {a = a} t w n s f u = record {
       within = omega arith;
       left = t .next;
       so-far = r .so-far ++ a;
@@ -183,6 +220,12 @@ module _ {file : List ℕ} {from end had done : ℕ} {filter last : List ℕ} {h
       few = omega arith;
       room = rw (wrote-long w) (r .room);
       out-long = wrote-long w ∙ r .out-long;
+      flags-long = rw f (r .flags-long);
+      flags-same = f ∙ r .flags-same;
+      owing = λ owed o.
+          let b = r .owing owed o in
+          let z = t .owes (b .now-owed) (b .owes) in
+          record { now-owed = z .now-owed; owes = z .owes; then-owed = z .then-owed ∙ (rw rest at (b .then-owed)) };
       skipped = u;
     }
 
@@ -195,10 +238,15 @@ module _ {file : List ℕ} {from end had done : ℕ} {filter last : List ℕ} {h
     keeping-has = near here .1
 
     module _ {b : Bool} (q : b ≡ eqb (place (x .page) filter) c) where
+      -- A new page has a place, and so a flag.
+      pub keeping-flag : b ≡ true → c < length flags
+      keeping-flag t = omega (arith, same _ c (sym q ∙ t), place-within (x .page) filter keeping-has, r .flags-long)
+
       -- The item is the first of its page, and is written.
       pub keeping-new : b ≡ true → {out′ : List ℕ} → out′ ≡ sets out (23 + 19 * m) (encodeItem x)
-          → Keeping file from end had done filter last held out₀ (k + 1) (c + 1) (m + 1) skip out′
-      keeping-new t w = passed (turn-new here refl (omega (arith, same _ c (sym q ∙ t)))) (wrote-one w) (omega arith) (omega arith) later
+          → Keeping file from end had done filter last held flags₀ out₀ (k + 1) (c + 1) (m + 1) skip (set flags c 0) out′
+      keeping-new t w =
+          passed (turn-new here refl (omega (arith, same _ c (sym q ∙ t))) (keeping-flag t)) (wrote-one w) (omega arith) (omega arith) (length-set flags c 0) later
 
       module _ (t : b ≡ false) (n : Notes file last held filter) where
         before : place (x .page) filter < c
@@ -213,26 +261,48 @@ module _ {file : List ℕ} {from end had done : ℕ} {filter last : List ℕ} {h
             let w : place (x .page) filter < held = omega (arith, before, here .before, notes-long n) in
             rw e (notes-told n k (rw e at w))
 
-        skips : has k (take held last) ≡ false → {skip′ : ℕ} → ((i : ℕ) → k + 1 ≤ i → i < skip′ → has i (take held last) ≡ false)
-            → Keeping file from end had done filter last held out₀ (k + 1) c m skip′ out
-        skips y u = passed (turn-skip here refl before (eqb-false _ k (told ∙ y))) (wrote-none m out) (omega arith) (omega arith) u
+        -- An item that is not noted is dropped: a read,
+        skips : has k (take held last) ≡ false → x .written ≡ false → {skip′ : ℕ} → ((i : ℕ) → k + 1 ≤ i → i < skip′ → has i (take held last) ≡ false)
+            → Keeping file from end had done filter last held flags₀ out₀ (k + 1) c m skip′ flags out
+        skips y z u = passed (turn-skip here refl before (eqb-false _ k (told ∙ y)) z) (wrote-none m out) (omega arith) (omega arith) refl u
 
-        -- It is known to be neither the first nor the last,
-        pub keeping-known : k < skip → Keeping file from end had done filter last held out₀ (k + 1) c m skip out
-        keeping-known o = skips (r .skipped k (omega arith) o) later
+        -- or a write, which its page is owed.
+        drops : has k (take held last) ≡ false → x .written ≡ true → {skip′ : ℕ} → ((i : ℕ) → k + 1 ≤ i → i < skip′ → has i (take held last) ≡ false)
+            → {flags′ : List ℕ} → flags′ ≡ set flags (place (x .page) filter) 1
+            → Keeping file from end had done filter last held flags₀ out₀ (k + 1) c m skip′ flags′ out
+        drops y z u g =
+            let l : place (x .page) filter < length flags = omega (arith, before, here .before, r .flags-long) in
+            let t = turn-drop here refl before (eqb-false _ k (told ∙ y)) z l in
+            rw g (passed t (wrote-none m out) (omega arith) (omega arith) (length-set flags (place (x .page) filter) 1) u)
+
+        module _ (o : k < skip) where
+          -- It is known to be neither the first nor the last: a read,
+          pub keeping-known : x .written ≡ false → Keeping file from end had done filter last held flags₀ out₀ (k + 1) c m skip flags out
+          keeping-known z = skips (r .skipped k (omega arith) o) z later
+
+          -- or a write,
+          pub keeping-known-write : x .written ≡ true → {flags′ : List ℕ} → flags′ ≡ set flags (place (x .page) filter) 1
+              → Keeping file from end had done filter last held flags₀ out₀ (k + 1) c m skip flags′ out
+          keeping-known-write z g = drops (r .skipped k (omega arith) o) z later g
 
         module _ {skip′ : ℕ} (f : FirstNoted (take held last) k skip′) where
           onward : (i : ℕ) → k + 1 ≤ i → i < skip′ → has i (take held last) ≡ false
           onward i a b = f .none i (omega arith) b
 
-          -- or is found to be neither,
-          pub keeping-skip : (skip′ ≡ k → ⊥) → Keeping file from end had done filter last held out₀ (k + 1) c m skip′ out
-          keeping-skip d = skips (f .none k (omega arith) (first-after f d)) onward
+          module _ (d : skip′ ≡ k → ⊥) where
+            -- or is found to be neither: a read,
+            pub keeping-skip : x .written ≡ false → Keeping file from end had done filter last held flags₀ out₀ (k + 1) c m skip′ flags out
+            keeping-skip z = skips (f .none k (omega arith) (first-after f d)) z onward
+
+            -- or a write,
+            pub keeping-skip-write : x .written ≡ true → {flags′ : List ℕ} → flags′ ≡ set flags (place (x .page) filter) 1
+                → Keeping file from end had done filter last held flags₀ out₀ (k + 1) c m skip′ flags′ out
+            keeping-skip-write z g = drops (f .none k (omega arith) (first-after f d)) z onward g
 
           -- or is the last of its page, and is written.
           pub keeping-last : skip′ ≡ k → {out′ : List ℕ} → out′ ≡ sets out (23 + 19 * m) (encodeItem x)
-              → Keeping file from end had done filter last held out₀ (k + 1) c (m + 1) skip′ out′
-          keeping-last d w = passed (turn-last here refl before (same _ k (told ∙ f .here d))) (wrote-one w) (omega arith) (omega arith) onward
+              → Keeping file from end had done filter last held flags₀ out₀ (k + 1) c (m + 1) skip′ flags out′
+          keeping-last d w = passed (turn-last here refl before (same _ k (told ∙ f .here d))) (wrote-one w) (omega arith) (omega arith) refl onward
 
   module _ (h : end ≤ k) where
     -- What is kept so far is all.
@@ -247,3 +317,15 @@ module _ {file : List ℕ} {from end had done : ℕ} {filter last : List ℕ} {h
     -- They stand behind what was done.
     pub keeping-bytes : out ≡ sets out₀ (23 + 19 * done) (encodeItems (keptThere file from end had filter))
     keeping-bytes = rw whole at (r .wrote .bytes-are)
+
+    -- The filter is passed, and the flags say what is owed.
+    pub keeping-flags : Flags file from end had filter flags₀ flags
+    unfolding lost touched
+    keeping-flags = record {
+      owes = λ owed o.
+          let b = r .owing owed o in
+          let f : filter ≡ take c filter = rw (from-none file h) at (r .left .filter-is) in
+          let a : b .now-owed ≡ lost Demand (take had filter) owed (itemsFrom file from (end - from)) = rw (from-none file h) at (b .then-owed) in
+          let g : Owes filter flags (b .now-owed) = rw (← f) at (b .owes) in
+          rw (← a) g;
+    }

@@ -16,6 +16,7 @@ use Rattle.trace.specs.Layout.{header, items, itemsFrom, encodeHeader, encodeIt
 use Rattle.trace.specs.Refusals.{row}
 use Rattle.trace.specs.Verdict.{first, _then_}
 use Rattle.trace.specs.Check.{verdict}
+use Rattle.trace.specs.Promises.{AreBytes}
 use Rattle.trace.specs.declared.Header.{Header}
 use Rattle.trace.specs.declared.Reason.{Reason}
 use Rattle.trace.specs.declared.Refusal.{Refusal}
@@ -110,8 +111,9 @@ module _ (f : List ℕ) (mode size : ℕ) (out : List ℕ) (v : reduceVerdict f 
     long-is = rw q long
 
     -- The passes may begin, with an empty filter that has room for the largest.
-    pub reducing-slim : h .items < 4294967296 → CanSlim f (h .items) size (replicate filterMost 0) (replicate buckets 0) (replicate filterMost 0) out
-    reducing-slim c =
+    pub reducing-slim : h .items < 4294967296 → AreBytes f
+        → CanSlim f (h .items) size (replicate filterMost 0) (replicate buckets 0) (replicate filterMost 0) (replicate filterMost 0) out
+    reducing-slim c b =
         let a = able in
         record {
           file-long = omega (arith, long-is);
@@ -120,6 +122,8 @@ module _ (f : List ℕ) (mode size : ℕ) (out : List ℕ) (v : reduceVerdict f 
           few = a .most;
           filter = holds-none f (replicate filterMost 0) (low-zeros buckets) (omega arith) (omega arith) (omega arith);
           room = a .most;
+          flags = a .most;
+          octets = b;
           fits = omega (arith, long-is);
         }
 

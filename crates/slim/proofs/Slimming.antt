@@ -1,67 +1,119 @@
 -- The loop over the stretches: what holds before each, and how a stretch carries it on. Assumes nothing.
-use Prim.Native.Nat.{ℕ, _+_, _-_, _*_, _≤_, _<_}
+use Prim.Native.Nat.{ℕ, zero, suc, _+_, _-_, _*_, _≤_, _<_}
 use mathlib.Core.Path.{_≡_, refl, sym, ap, _∙_}
+use mathlib.Core.Bool.{true, or-false, or-true, false≢true}
 use mathlib.Core.List.{List, [], _∷_, _++_, append-assoc, append-nil}
 use native.Mathlib.Nat.{sub-zero, zero-add}
 use native.Mathlib.Omega.{arith}
 use lib.ListN.{length, take, drop, length-append}
 use lib.Seq.{sets, drop-append-seam}
 use Rattle.pages.specs.Rows.{flat}
+use Rattle.pages.specs.Pages.{has, add}
+use Rattle.pages.proofs.Choice.{split}
+use Rattle.pages.proofs.Added.{has-join}
 use Rattle.filter.specs.Filter.{pagesOf, pagesIn, Holds, IsFilter}
 use Rattle.filter.proofs.Noting.{notes-long}
 use Rattle.filter.proofs.Filling.{holds-in}
-use Rattle.trace.specs.Layout.{itemAt, itemsFrom, encodeItems}
+use Rattle.trace.specs.Layout.{item, itemAt, itemsOf, itemsFrom, encodeItems}
+use Rattle.trace.specs.Promises.{AreBytes}
 use Rattle.trace.specs.declared.Item.{Item}
+use Rattle.trace.proofs.Bytes.{numberAt-lt, drop-bytes}
 use Rattle.trace.proofs.Items.{length-from, from-turn, from-none, from-split}
 use Rattle.trace.proofs.Output.{Wrote, wrote-none, wrote-then, wrote-long}
-use Rattle.slim.specs.Epochs.{touched, cut}
-use Rattle.slim.specs.Keep.{kept, reduce}
-use Rattle.slim.specs.Passes.{limit, CanLook, Looked, Within, CanKeep, keptThere, CanSlim}
+use Rattle.slim.specs.Epochs.{pages, touched, cut}
+use Rattle.slim.specs.Keep.{keeps, kept, reduce, lost, settled}
+use Rattle.slim.specs.Passes.{limit, CanLook, Looked, Within, CanKeep, keptThere, Owes, Flags, CanMend, Fit, Stand, Mended, CanSlim}
 use Rattle.slim.specs.declared.Mode.{Mode}
 use Rattle.slim.specs.declared.Mode.the-variants.{FastSlim, Demand}
 use Rattle.slim.specs.declared.Reach.{Reach}
-use Rattle.slim.proofs.Greedy.{cut-flat}
+use Rattle.slim.proofs.Greedy.{cut-flat, has-touched}
 use Rattle.slim.proofs.Stretch.{reduceFrom, reduce-start, Ready, ready-start, stretch, beyond, emptied, emptied-full, emptied-else}
-use Rattle.slim.proofs.Stretch.{stretch-some, stretch-ready, stretch-kept}
+use Rattle.slim.proofs.Stretch.{reduce-full, stretch-some, stretch-next, stretch-ready, stretch-kept}
+use Rattle.slim.proofs.Through.{Next}
 use Rattle.slim.proofs.Kept.{kept-sub}
 use Rattle.slim.proofs.Order.{sub-length}
+use Rattle.slim.proofs.Flags.{owes-none}
+use Rattle.slim.proofs.Marks.{kept-pages}
+use Rattle.slim.proofs.Mending.{length-settled, pages-join}
 use Rattle.slim.proofs.Keeping.{filter-grows, filter-begins}
 
--- Before the stretch that begins at item i: the filter holds `held` pages, and m items are kept and written.
-pub record Slimming (file : List ℕ) (n : ℕ) (mode : Mode) (size : ℕ) (last₀ heads₀ next₀ out₀ last heads next out : List ℕ) (i held base m : ℕ) : Type 0 where
-  pub can : CanSlim file n size last₀ heads₀ next₀ out₀
+-- ---- the items of a file fit
+
+items-fit : (n : ℕ) (s : List ℕ) → AreBytes s → Fit (itemsOf n s)
+unfolding itemsOf item
+items-fit zero s b = tt
+items-fit (suc n) s b = (numberAt-lt 8 s 3 b, numberAt-lt 8 s 11 b, items-fit n (drop 19 s) (drop-bytes 19 s b))
+
+from-fit : (f : List ℕ) (i n : ℕ) → AreBytes f → Fit (itemsFrom f i n)
+unfolding itemsFrom
+from-fit f i n b = items-fit n (drop (23 + 19 * i) f) (drop-bytes (23 + 19 * i) f b)
+
+kept-fit : (m : Mode) (seen : List ℕ) (e : List Item) → Fit e → Fit (kept m seen e)
+unfolding kept
+kept-fit m seen [] f = tt
+kept-fit m seen (i ∷ e) f =
+    let r = kept-fit m (add (i .page) seen) e (f .2) in
+    split (keeps m seen i e) (λ k. rw k (f .0, f .1, r)) (λ k. rw k r)
+
+append-fit : (a b : List Item) → Fit a → Fit b → Fit (a ++ b)
+append-fit [] b f g = g
+append-fit (i ∷ a) b f g = (f .0, f .1, append-fit a b (f .2) g)
+
+-- Before the stretch that begins at item i: the filter holds `held` pages, and m items are kept and written. Those before item `begun` are of the epochs
+-- before, and are settled; the others, `here`, are of this one, of whose pages those `owing` are owed a write.
+pub record Slimming (file : List ℕ) (n : ℕ) (mode : Mode) (size : ℕ) (last₀ heads₀ next₀ owed₀ out₀ last heads next owed out : List ℕ)
+    (i held base begun m : ℕ) : Type 0 where
+  pub can : CanSlim file n size last₀ heads₀ next₀ owed₀ out₀
   pub within : i ≤ n
   pub holds : held ≤ size
   pub last-long : length last ≡ length last₀
   pub heads-long : length heads ≡ length heads₀
   pub next-long : length next ≡ length next₀
+  pub owed-long : length owed ≡ length owed₀
   pub out-long : length out ≡ length out₀
   pub filter : IsFilter file last held base heads next
   pub ready : Ready mode size (pagesIn file last held) (itemsFrom file i (n - i))
-  pub so-far : List Item
-  pub wrote : Wrote 0 so-far out₀ out
-  pub count : m ≡ length so-far
+  pub done : List Item
+  pub here : List Item
+  pub owing : List ℕ
+  pub mid : List ℕ
+  pub wrote-done : Wrote 0 done out₀ mid
+  pub wrote-here : Wrote begun here mid out
+  pub begun-is : begun ≡ length done
+  pub count : m ≡ begun + length here
   pub few : m ≤ i
-  pub all : so-far ++ reduceFrom mode size (pagesIn file last held) (itemsFrom file i (n - i)) ≡ reduce mode size (itemsFrom file 0 n)
+  pub fit : Fit here
+  pub known : (p : ℕ) → has p (pages here) ≡ true → has p (pagesIn file last held) ≡ true
+  pub owes : Owes (pagesIn file last held) owed owing
+  pub all : done ++ reduceFrom mode size (pagesIn file last held) owing here (itemsFrom file i (n - i)) ≡ reduce mode size (itemsFrom file 0 n)
 
 -- Nothing is done yet.
-pub slimming-none : (file : List ℕ) (n : ℕ) (mode : Mode) (size : ℕ) (last heads next out : List ℕ) → CanSlim file n size last heads next out
-    → Slimming file n mode size last heads next out last heads next out 0 0 0 0
-unfolding pagesOf
-slimming-none file n mode size last heads next out c = record {
+pub slimming-none : (file : List ℕ) (n : ℕ) (mode : Mode) (size : ℕ) (last heads next owed out : List ℕ) → CanSlim file n size last heads next owed out
+    → Slimming file n mode size last heads next owed out last heads next owed out 0 0 0 0 0
+unfolding pagesOf has pages
+slimming-none file n mode size last heads next owed out c = record {
   can = c;
   within = omega arith;
   holds = omega arith;
   last-long = refl;
   heads-long = refl;
   next-long = refl;
+  owed-long = refl;
   out-long = refl;
   filter = c .filter;
   ready = ready-start mode size (c .some) (itemsFrom file 0 (n - 0));
-  so-far = [];
-  wrote = wrote-none 0 out;
-  count = refl;
+  done = [];
+  here = [];
+  owing = [];
+  mid = out;
+  wrote-done = wrote-none 0 out;
+  wrote-here = wrote-none 0 out;
+  begun-is = refl;
+  count = omega arith;
   few = omega arith;
+  fit = tt;
+  known = λ p h. absurd (false≢true h);
+  owes = owes-none owed;
   all = rw (sub-zero, reduce-start mode size (itemsFrom file 0 n));
 }
 
@@ -74,8 +126,8 @@ unfolding limit
 limit-within Demand B held seen i t e h r = (h, omega arith)
 limit-within FastSlim B held seen i t e h r = (omega arith, omega arith)
 
-module _ {file : List ℕ} {n : ℕ} {mode : Mode} {size : ℕ} {last₀ heads₀ next₀ out₀ last heads next out : List ℕ} {i held base m : ℕ}
-    (s : Slimming file n mode size last₀ heads₀ next₀ out₀ last heads next out i held base m) (l : i < n) where
+module _ {file : List ℕ} {n : ℕ} {mode : Mode} {size : ℕ} {last₀ heads₀ next₀ owed₀ out₀ last heads next owed out : List ℕ} {i held base begun m : ℕ}
+    (s : Slimming file n mode size last₀ heads₀ next₀ owed₀ out₀ last heads next owed out i held base begun m) (l : i < n) where
   seen-long : length (pagesIn file last held) ≡ held
   seen-long = notes-long (s .filter .notes)
 
@@ -113,7 +165,7 @@ module _ {file : List ℕ} {n : ℕ} {mode : Mode} {size : ℕ} {last₀ heads�
       held-long = notes-long (slimming-filter .notes)
 
       -- and what it notes.
-      pub slimming-keep : CanKeep file i (r .end) held m (pagesIn file last′ (r .held)) last′ out
+      pub slimming-keep : CanKeep file i (r .end) held m (pagesIn file last′ (r .held)) last′ owed out
       slimming-keep =
           let F = pagesIn file last′ (r .held) in
           let t = itemsFrom file i (r .end - i) in
@@ -124,6 +176,7 @@ module _ {file : List ℕ} {n : ℕ} {mode : Mode} {size : ℕ} {last₀ heads�
             before = omega (arith, filter-grows F (pagesIn file last held) t filter-is, seen-long);
             filter-is = rw (← seen-long, filter-begins F (pagesIn file last held) t filter-is) filter-is;
             notes = omega (arith, held-long, k .filter .notes .within);
+            flags-long = omega (arith, held-long, s .owed-long, s .can .flags);
             last-noted = rw filter-is (k .last-noted);
             room = omega (arith, s .out-long);
           }
@@ -151,66 +204,180 @@ module _ {file : List ℕ} {n : ℕ} {mode : Mode} {size : ℕ} {last₀ heads�
           let some′ : 1 ≤ length (stretch mode size (pagesIn file last held) (itemsFrom file i (n - i))) = rw left-is some in
           omega arith
 
-      -- What is kept of the stretch, and the filter after it.
-      module _ {m′ : ℕ} {out′ : List ℕ} (c : m′ ≡ m + length (keptThere file i (r .end) held (pagesIn file last′ (r .held))))
-          (o : out′ ≡ sets out (23 + 19 * m) (encodeItems (keptThere file i (r .end) held (pagesIn file last′ (r .held))))) where
-        kept-is : keptThere file i (r .end) held (pagesIn file last′ (r .held)) ≡ kept Demand (pagesIn file last held) (itemsFrom file i (r .end - i))
-        kept-is =
+      -- What is kept of the stretch, what is owed, and the filter after it.
+      module _ {m′ : ℕ} {owed′ out′ : List ℕ} (c : m′ ≡ m + length (keptThere file i (r .end) held (pagesIn file last′ (r .held))))
+          (o : out′ ≡ sets out (23 + 19 * m) (encodeItems (keptThere file i (r .end) held (pagesIn file last′ (r .held)))))
+          (g : Flags file i (r .end) held (pagesIn file last′ (r .held)) owed owed′) (ol : length owed′ ≡ length owed) where
+        begins : take held (pagesIn file last′ (r .held)) ≡ pagesIn file last held
+        begins =
             let F = pagesIn file last′ (r .held) in
-            let after = filter-begins F (pagesIn file last held) (itemsFrom file i (r .end - i)) filter-is in
-            let begins : take held F ≡ pagesIn file last held = ap (λ (h : ℕ). take h F) (sym seen-long) ∙ after in
-            rw begins
+            ap (λ (h : ℕ). take h F) (sym seen-long) ∙ filter-begins F (pagesIn file last held) (itemsFrom file i (r .end - i)) filter-is
 
-        go-on : (held′ : ℕ) {base′ : ℕ} {heads″ : List ℕ} → IsFilter file last′ held′ base′ heads″ next′ → length heads″ ≡ length heads′
-            → held′ ≤ size → pagesIn file last′ held′ ≡ emptied size (pagesIn file last′ (r .held))
-            → Slimming file n mode size last₀ heads₀ next₀ out₀ last′ heads″ next′ out′ (r .end) held′ base′ m′
-        go-on held′ a hl′ h e =
-            let seen = pagesIn file last held in
-            let left = itemsFrom file i (n - i) in
-            let all = stretch-kept mode size (s .can .some) seen left (s .ready) in
-            let wr : Wrote 0 (s .so-far ++ kept Demand seen (itemsFrom file i (r .end - i))) out₀ out′ =
-            wrote-then (s .wrote) (s .count ∙ sym (zero-add (length (s .so-far)))) (record { bytes-are = rw (← kept-is) o }) in
+        kept-is : keptThere file i (r .end) held (pagesIn file last′ (r .held)) ≡ kept Demand (pagesIn file last held) (itemsFrom file i (r .end - i))
+        kept-is = rw begins
+
+        -- The epoch's items, with those of the stretch.
+        now-here : List Item
+        now-here = s .here ++ kept Demand (pagesIn file last held) (itemsFrom file i (r .end - i))
+
+        -- The pages owed a write, with those of the stretch.
+        now-owing : List ℕ
+        now-owing = lost Demand (pagesIn file last held) (s .owing) (itemsFrom file i (r .end - i))
+
+        now-wrote : Wrote begun now-here (s .mid) out′
+        unfolding now-here
+        now-wrote = wrote-then (s .wrote-here) (s .count) (record { bytes-are = rw (← kept-is) o })
+
+        now-count : m′ ≡ begun + length now-here
+        unfolding now-here
+        now-count = omega (arith, c, ap length kept-is, s .count, length-append (s .here) (kept Demand (pagesIn file last held) (itemsFrom file i (r .end - i))))
+
+        now-few : m′ ≤ r .end
+        now-few =
+            let fewer = sub-length (kept-sub Demand (pagesIn file last held) (itemsFrom file i (r .end - i))) in
+            omega (arith, c, s .few, ap length kept-is, fewer, length-from file i (r .end - i))
+
+        now-fit : Fit now-here
+        unfolding now-here
+        now-fit =
+            append-fit (s .here) _ (s .fit)
+            (kept-fit Demand (pagesIn file last held) (itemsFrom file i (r .end - i)) (from-fit file i (r .end - i) (s .can .octets)))
+
+        now-known : (p : ℕ) → has p (pages now-here) ≡ true → has p (pagesIn file last′ (r .held)) ≡ true
+        unfolding now-here
+        now-known p h =
+            let t = itemsFrom file i (r .end - i) in
+            let F = pagesIn file last held in
+            rw (filter-is, has-touched p F t)
+            (split (has p (pages t))
+            (λ e. rw e (or-true (has p F)))
+            (λ e. let z : has p (pages (s .here)) ≡ true =
+            rw (pages-join (s .here) (kept Demand F t), has-join p (pages (s .here)) (pages (kept Demand F t)), kept-pages Demand p F t, e, or-false (has p (pages (s .here)))) at h in
+            rw (s .known p z)))
+
+        now-owes : Owes (pagesIn file last′ (r .held)) owed′ now-owing
+        unfolding now-owing
+        now-owes = rw begins at (g .owes (s .owing) (rw begins (s .owes)))
+
+        now-all : s .done ++ reduceFrom mode size (pagesIn file last′ (r .held)) now-owing now-here (itemsFrom file (r .end) (n - r .end))
+            ≡ reduce mode size (itemsFrom file 0 n)
+        unfolding now-owing now-here
+        now-all =
+            let all = stretch-kept mode size (s .can .some) (pagesIn file last held) (s .owing) (s .here) (itemsFrom file i (n - i)) (s .ready) in
+            rw (filter-is, ← stretch-eq, ← beyond-eq, ← all) (s .all)
+
+        -- Its items stand in the output as the kept ones, and may be mended.
+        now-stand : Stand (pagesIn file last′ (r .held)) owed′ begun m′ out′ (s .mid) now-here now-owing
+        now-stand = record { wrote = now-wrote .bytes-are; count = now-count; fit = now-fit; known = now-known; owes = now-owes }
+
+        pub slimming-mend : CanMend begun m′ (r .held) out′ owed′
+        slimming-mend =
+            let b = bounds in
+            record {
+              within = omega (arith, now-count);
+              room = omega (arith, now-few, s .can .fits, wrote-long now-wrote, wrote-long (s .wrote-done), w .ends);
+              flags-long = omega (arith, s .owed-long, s .can .flags);
+            }
+
+        now-ready : Ready mode size (emptied size (pagesIn file last′ (r .held))) (itemsFrom file (r .end) (n - r .end))
+        now-ready = rw (filter-is, ← stretch-eq, ← beyond-eq) (stretch-ready mode size (s .can .some) (pagesIn file last held) (itemsFrom file i (n - i)) (s .ready))
+
+        now-next : Next (limit mode size (length (pagesIn file last held))) (pagesIn file last′ (r .held)) (itemsFrom file (r .end) (n - r .end))
+        now-next = rw (filter-is, ← stretch-eq, ← beyond-eq) (stretch-next mode size (s .can .some) (pagesIn file last held) (itemsFrom file i (n - i)) (s .ready))
+
+        -- The filter is full: the epoch is mended, and the filter emptied.
+        pub slimming-full : r .held ≡ size → {owed″ out″ : List ℕ} → Mended (pagesIn file last′ (r .held)) owed′ begun m′ out′ out″ → length owed″ ≡ length owed′
+            → {base′ : ℕ} {heads″ : List ℕ} → Holds file last′ 0 base′ heads″ next′ [] → length heads″ ≡ length heads′
+            → Slimming file n mode size last₀ heads₀ next₀ owed₀ out₀ last′ heads″ next′ owed″ out″ (r .end) 0 base′ m′ m′
+        unfolding pagesOf has pages
+        slimming-full f {owed″} {out″} me ol′ a hl′ =
+            let F = pagesIn file last′ (r .held) in
+            let wr : Wrote 0 (s .done ++ settled now-owing now-here) out₀ out″ =
+            wrote-then (s .wrote-done) (s .begun-is ∙ sym (zero-add (length (s .done)))) (record { bytes-are = me .settles (s .mid) now-here now-owing now-stand }) in
+            let full = reduce-full size F mode (s .can .some) (limit mode size (length (pagesIn file last held))) now-owing now-here
+            (itemsFrom file (r .end) (n - r .end)) (held-long ∙ f) now-next in
             record {
               can = s .can;
               within = w .ends;
-              holds = h;
+              holds = omega arith;
               last-long = ll ∙ s .last-long;
               heads-long = hl′ ∙ hl ∙ s .heads-long;
               next-long = nl ∙ s .next-long;
+              owed-long = ol′ ∙ ol ∙ s .owed-long;
               out-long = wrote-long wr;
-              filter = a;
-              ready = rw (e, filter-is, ← stretch-eq, ← beyond-eq) (stretch-ready mode size (s .can .some) seen left (s .ready));
-              so-far = s .so-far ++ kept Demand seen (itemsFrom file i (r .end - i));
-              wrote = wr;
-              count = c ∙ rw (kept-is, length-append, s .count);
-              few = omega (arith, ap length kept-is, sub-length (kept-sub Demand seen (itemsFrom file i (r .end - i))), length-from file i (r .end - i));
-              all = rw (append-assoc, e, filter-is, ← stretch-eq, ← beyond-eq, ← all) (s .all);
+              filter = holds-in a;
+              ready = rw (← emptied-full size F (held-long ∙ f)) now-ready;
+              done = s .done ++ settled now-owing now-here;
+              here = [];
+              owing = [];
+              mid = out″;
+              wrote-done = wr;
+              wrote-here = wrote-none m′ out″;
+              begun-is = rw (length-append, length-settled, ← s .begun-is) now-count;
+              count = omega arith;
+              few = now-few;
+              fit = tt;
+              known = λ p h. absurd (false≢true h);
+              owes = owes-none owed″;
+              all = rw (append-assoc, ← full) now-all;
             }
 
-        -- The filter is full, and is emptied.
-        pub slimming-full : r .held ≡ size → {base′ : ℕ} {heads″ : List ℕ} → Holds file last′ 0 base′ heads″ next′ [] → length heads″ ≡ length heads′
-            → Slimming file n mode size last₀ heads₀ next₀ out₀ last′ heads″ next′ out′ (r .end) 0 base′ m′
-        slimming-full f a hl′ = go-on 0 (holds-in a) hl′ (omega arith) (a .notes .pages-are ∙ sym (emptied-full size (pagesIn file last′ (r .held)) (held-long ∙ f)))
-
         -- It is not, and goes on.
-        pub slimming-else : (r .held ≡ size → ⊥) → Slimming file n mode size last₀ heads₀ next₀ out₀ last′ heads′ next′ out′ (r .end) (r .held) base m′
-        slimming-else g =
+        pub slimming-else : (r .held ≡ size → ⊥)
+            → Slimming file n mode size last₀ heads₀ next₀ owed₀ out₀ last′ heads′ next′ owed′ out′ (r .end) (r .held) base begun m′
+        slimming-else f =
             let b = bounds in
-            let same = emptied-else size (pagesIn file last′ (r .held)) (λ f. g (sym held-long ∙ f)) in
-            go-on (r .held) slimming-filter refl (omega arith) (sym same)
+            record {
+              can = s .can;
+              within = w .ends;
+              holds = omega arith;
+              last-long = ll ∙ s .last-long;
+              heads-long = hl ∙ s .heads-long;
+              next-long = nl ∙ s .next-long;
+              owed-long = ol ∙ s .owed-long;
+              out-long = wrote-long now-wrote ∙ wrote-long (s .wrote-done);
+              filter = slimming-filter;
+              ready = rw (← emptied-else size (pagesIn file last′ (r .held)) (λ q. f (sym held-long ∙ q))) now-ready;
+              done = s .done;
+              here = now-here;
+              owing = now-owing;
+              mid = s .mid;
+              wrote-done = s .wrote-done;
+              wrote-here = now-wrote;
+              begun-is = s .begun-is;
+              count = now-count;
+              few = now-few;
+              fit = now-fit;
+              known = now-known;
+              owes = now-owes;
+              all = now-all;
+            }
 
 -- ---- all stretches are done
 
-module _ {file : List ℕ} {n : ℕ} {mode : Mode} {size : ℕ} {last₀ heads₀ next₀ out₀ last heads next out : List ℕ} {i held base m : ℕ}
-    (s : Slimming file n mode size last₀ heads₀ next₀ out₀ last heads next out i held base m) (l : n ≤ i) where
-  all-kept : s .so-far ≡ reduce mode size (itemsFrom file 0 n)
-  unfolding reduceFrom cut kept flat
-  all-kept =
-      let e : s .so-far ++ [] ≡ reduce mode size (itemsFrom file 0 n) = rw (from-none file l) at (s .all) in
-      sym (append-nil (s .so-far)) ∙ e
+module _ {file : List ℕ} {n : ℕ} {mode : Mode} {size : ℕ} {last₀ heads₀ next₀ owed₀ out₀ last heads next owed out : List ℕ} {i held base begun m : ℕ}
+    (s : Slimming file n mode size last₀ heads₀ next₀ owed₀ out₀ last heads next owed out i held base begun m) (l : n ≤ i) where
+  -- The last epoch's items may be mended.
+  pub ended-mend : CanMend begun m held out owed
+  ended-mend = record {
+    within = omega (arith, s .count);
+    room = omega (arith, s .few, s .within, s .can .fits, s .out-long);
+    flags-long = omega (arith, s .owed-long, s .can .flags, s .holds);
+  }
+
+  all-kept : s .done ++ settled (s .owing) (s .here) ≡ reduce mode size (itemsFrom file 0 n)
+  unfolding reduceFrom cut kept lost flat
+  all-kept = simp append-nil at (rw (from-none file l) at (s .all))
 
   pub slimming-count : m ≡ length (reduce mode size (itemsFrom file 0 n))
-  slimming-count = s .count ∙ ap length all-kept
+  slimming-count =
+      let long = length-append (s .done) (settled (s .owing) (s .here)) in
+      omega (arith, s .count, s .begun-is, ap length all-kept, long, length-settled (s .owing) (s .here))
 
-  pub slimming-bytes : out ≡ sets out₀ 23 (encodeItems (reduce mode size (itemsFrom file 0 n)))
-  slimming-bytes = s .wrote .bytes-are ∙ ap (λ (t : List Item). sets out₀ 23 (encodeItems t)) all-kept
+  pub slimming-bytes : {out′ : List ℕ} → Mended (pagesIn file last held) owed begun m out out′ → out′ ≡ sets out₀ 23 (encodeItems (reduce mode size (itemsFrom file 0 n)))
+  slimming-bytes {out′} me =
+      let stand : Stand (pagesIn file last held) owed begun m out (s .mid) (s .here) (s .owing) =
+      record { wrote = s .wrote-here .bytes-are; count = s .count; fit = s .fit; known = s .known; owes = s .owes } in
+      let wr : Wrote 0 (s .done ++ settled (s .owing) (s .here)) out₀ out′ =
+      wrote-then (s .wrote-done) (s .begun-is ∙ sym (zero-add (length (s .done)))) (record { bytes-are = me .settles (s .mid) (s .here) (s .owing) stand }) in
+      wr .bytes-are ∙ ap (λ (t : List Item). sets out₀ 23 (encodeItems t)) all-kept

@@ -1,16 +1,19 @@
 -- The two passes over a stretch of a trace, an epoch or a phase: what the code's functions are told, and what they leave. Assumes nothing.
-use Prim.Native.Nat.{ℕ, suc, _+_, _-_, _*_, _≤_, _<_}
+use Prim.Native.Nat.{ℕ, suc, _+_, _-_, _*_, _^_, _≤_, _<_}
 use mathlib.Core.Path.{_≡_}
-use mathlib.Core.Bool.{true, cond}
+use mathlib.Core.Bool.{Bool, true, false, cond}
 use mathlib.Core.List.{List, [], _∷_}
 use lib.ListN.{length, getD, take}
+use lib.Seq.{sets}
+use lib.Dec.{eqb}
 use Rattle.limits.proofs.Numbers.{filterMost}
 use Rattle.pages.specs.Pages.{has, place}
-use Rattle.trace.specs.Layout.{itemsFrom}
+use Rattle.trace.specs.Layout.{itemsFrom, encodeItems}
+use Rattle.trace.specs.Promises.{AreBytes}
 use Rattle.trace.specs.declared.Item.{Item}
 use Rattle.filter.specs.Filter.{Holds, IsFilter}
 use Rattle.slim.specs.Epochs.{pages, touched, cut}
-use Rattle.slim.specs.Keep.{kept}
+use Rattle.slim.specs.Keep.{kept, lost, settled}
 use Rattle.slim.specs.declared.Mode.{Mode}
 use Rattle.slim.specs.declared.Mode.the-variants.{FastSlim, Demand}
 use Rattle.slim.specs.declared.Reach.{Reach}
@@ -54,12 +57,13 @@ pub record Within (n from most : ℕ) (r : Reach) : Type 0 where
 -- ---- the second pass
 
 -- The stretch from item `from` up to item `end`, where the filter had `had` pages before it.
-pub record CanKeep (file : List ℕ) (from end had done : ℕ) (filter last out : List ℕ) : Type 0 where
+pub record CanKeep (file : List ℕ) (from end had done : ℕ) (filter last flags out : List ℕ) : Type 0 where
   pub file-long : 23 + 19 * end ≤ length file
   pub within : from ≤ end
   pub before : had ≤ length filter
   pub filter-is : filter ≡ touched (take had filter) (itemsFrom file from (end - from))
   pub notes : length filter ≤ length last
+  pub flags-long : length filter ≤ length flags
   pub last-noted : Noted from (itemsFrom file from (end - from)) filter last
   pub room : 23 + 19 * (done + (end - from)) ≤ length out
 
@@ -67,13 +71,55 @@ pub record CanKeep (file : List ℕ) (from end had done : ℕ) (filter last out 
 abbrev pub keptThere : List ℕ → ℕ → ℕ → ℕ → List ℕ → List Item
 keptThere file from end had filter = kept Demand (take had filter) (itemsFrom file from (end - from))
 
+-- A flag for each place of the filter says whether its page is owed a write. No other page is.
+pub record Owes (filter flags owed : List ℕ) : Type 0 where
+  pub flagged : (p : ℕ) → has p filter ≡ true → eqb (getD flags (place p filter) 0) 1 ≡ has p owed
+  pub among : (p : ℕ) → has p filter ≡ false → has p owed ≡ false
+
+-- The flags after the stretch, whatever was owed before it.
+pub record Flags (file : List ℕ) (from end had : ℕ) (filter flags flags′ : List ℕ) : Type 0 where
+  pub owes : (owed : List ℕ) → Owes (take had filter) flags owed
+      → Owes filter flags′ (lost Demand (take had filter) owed (itemsFrom file from (end - from)))
+
+-- ---- back over an epoch
+
+-- Where r is false, none of the first c flags is set.
+pub record Quiet (c : ℕ) (flags : List ℕ) (r : Bool) : Type 0 where
+  pub none : r ≡ false → (j : ℕ) → j < c → getD flags j 0 ≡ 1 → ⊥
+
+-- The items of the epoch are in the output from item `from` up to item `to`, and there is a flag for each of the `held` places.
+pub record CanMend (from to held : ℕ) (out flags : List ℕ) : Type 0 where
+  pub within : from ≤ to
+  pub room : 23 + 19 * to ≤ length out
+  pub flags-long : held ≤ length flags
+
+-- Pages and times are numbers of 64 bits.
+abbrev pub Fit : List Item → Type 0
+Fit [] = Unit {0}
+Fit (i ∷ u) = (i .page < 2 ^ 64) × (i .time < 2 ^ 64) × Fit u
+
+-- The items u stand in the output, over what it was before them; their pages are in the filter, and the flags say which of them are owed a write.
+pub record Stand (filter flags : List ℕ) (from to : ℕ) (out old : List ℕ) (u : List Item) (owed : List ℕ) : Type 0 where
+  pub wrote : out ≡ sets old (23 + 19 * from) (encodeItems u)
+  pub count : to ≡ from + length u
+  pub fit : Fit u
+  pub known : (p : ℕ) → has p (pages u) ≡ true → has p filter ≡ true
+  pub owes : Owes filter flags owed
+
+-- Then they stand there settled: the last item of each page that is owed a write has become one.
+pub record Mended (filter flags : List ℕ) (from to : ℕ) (out out′ : List ℕ) : Type 0 where
+  pub settles : (old : List ℕ) (u : List Item) (owed : List ℕ) → Stand filter flags from to out old u owed
+      → out′ ≡ sets old (23 + 19 * from) (encodeItems (settled owed u))
+
 -- ---- all stretches
 
-pub record CanSlim (file : List ℕ) (n size : ℕ) (last heads next out : List ℕ) : Type 0 where
+pub record CanSlim (file : List ℕ) (n size : ℕ) (last heads next owed out : List ℕ) : Type 0 where
   pub file-long : 23 + 19 * n ≤ length file
   pub count : n < 4294967296
   pub some : 1 ≤ size
   pub few : size ≤ filterMost
   pub filter : Holds file last 0 0 heads next []
   pub room : size ≤ length last
+  pub flags : size ≤ length owed
+  pub octets : AreBytes file
   pub fits : 23 + 19 * n ≤ length out

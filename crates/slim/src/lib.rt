@@ -2,21 +2,24 @@
 use limits::Filter;
 use limits::FilterMade;
 use trace::Header;
+use trace::Item;
 use trace::Reason;
 use trace::Refusal;
 use trace::Verdict;
 ghost use mathlib.Core.Path.{_≡_};
+ghost use mathlib.Core.Bool.{true};
 ghost use Prim.Native.Nat.{_+_, _*_, _≤_};
-ghost use lib.ListN.{length};
+ghost use lib.ListN.{length, set};
 ghost use lib.Seq.{sets};
 ghost use Rattle.pages.specs.Rows.{over};
+ghost use Rattle.pages.specs.Pages.{has, place};
 ghost use Rattle.limits.proofs.Numbers.{filterMost};
 ghost use Rattle.filter.specs.Filter.{pagesIn, IsFilter};
 ghost use Rattle.trace.specs.declared.Verdict.the-variants.{Sound};
 ghost use Rattle.trace.specs.Layout.{encodeItems, itemsFrom};
 ghost use Rattle.slim.specs.Keep.{reduce as reduced};
 ghost use Rattle.slim.specs.Reduce.{isMode, modeOf, reducedHeader, reducedFile, reduceVerdict, reduceAnswer, reduceOut};
-ghost use Rattle.slim.specs.Passes.{limit, CanLook, Looked, Within, CanKeep, keptThere, CanSlim};
+ghost use Rattle.slim.specs.Passes.{limit, CanLook, Looked, Within, CanKeep, keptThere, Flags, Quiet, CanMend, Mended, CanSlim};
 
 // FastSlim, or FastSlim-Demand.
 pub enum Mode {
@@ -83,7 +86,27 @@ fn look(
     Reach { end: k, held: c }
 }
 
-// Second pass: writes each item that is the first of its page in the epoch, or the last of it in the stretch.
+// A write of this page is dropped: the page is owed one.
+fn owe(
+    file: &[u8],
+    last: &[u32],
+    held: usize,
+    base: usize,
+    heads: &[u16],
+    next: &[u16],
+    owed: &mut [u8],
+    page: u64,
+)
+    requires { ⌜ IsFilter (now file) (now last) held base (now heads) (now next) ⌝ }
+    requires { ⌜ has page (pagesIn (now file) (now last) held) ≡ true ⌝ }
+    requires { ⌜ held ≤ length (now owed) ⌝ }
+    ensures { λ _. ⌜ now (owed .exit) ≡ set (now (owed .entry)) (place page (pagesIn (now (file .entry)) (now (last .entry)) held)) 1 ⌝ }
+{
+    let j = filter::find(file, last, held, base, heads, next, page);
+    owed[j] = 1;
+}
+
+// Second pass: writes each item that is the first of its page in the epoch, or the last of it in the stretch. A page of which a write is dropped is owed one.
 // The stretch's new pages stand behind the `had` that were there before, in the order of their first items, so that a first is known by one place;
 // a last is an item that the filter notes. Up to `skip` it notes none.
 fn keep(
@@ -98,12 +121,14 @@ fn keep(
     had: usize,
     out: &mut [u8],
     done: usize,
+    owed: &mut [u8],
 ) -> usize
-    requires { ⌜ CanKeep (now file) from end had done (pagesIn (now file) (now last) held) (now last) (now out) ⌝ }
+    requires { ⌜ CanKeep (now file) from end had done (pagesIn (now file) (now last) held) (now last) (now owed) (now out) ⌝ }
     requires { ⌜ IsFilter (now file) (now last) held base (now heads) (now next) ⌝ }
     ensures { λ r. ⌜ r ≡ done + length (keptThere (now (file .entry)) from end had (pagesIn (now (file .entry)) (now (last .entry)) held)) ⌝ }
     ensures { λ _. ⌜ now (out .exit) ≡ sets (now (out .entry)) (23 + 19 * done)
         (encodeItems (keptThere (now (file .entry)) from end had (pagesIn (now (file .entry)) (now (last .entry)) held))) ⌝ }
+    ensures { λ _. ⌜ Flags (now (file .entry)) from end had (pagesIn (now (file .entry)) (now (last .entry)) held) (now (owed .entry)) (now (owed .exit)) ⌝ }
 {
     let mut k = from;
     let mut c = had;
@@ -113,12 +138,18 @@ fn keep(
         let x = trace::read::item_at(file, k);
         if filter::is_at(file, last, held, x.page, c) {
             trace::write::item(out, m, x);
+            owed[c] = 0;
             c += 1;
             m += 1;
             k += 1;
         } else {
             if k < skip {
-                k += 1;
+                if x.written {
+                    owe(file, last, held, base, heads, next, owed, x.page);
+                    k += 1;
+                } else {
+                    k += 1;
+                }
             } else {
                 skip = filter::first_noted(file, last, held, base, heads, next, k);
                 if skip == k {
@@ -126,7 +157,12 @@ fn keep(
                     m += 1;
                     k += 1;
                 } else {
-                    k += 1;
+                    if x.written {
+                        owe(file, last, held, base, heads, next, owed, x.page);
+                        k += 1;
+                    } else {
+                        k += 1;
+                    }
                 }
             }
         }
@@ -134,7 +170,66 @@ fn keep(
     m
 }
 
-// All stretches, one after the other: the filter is emptied when it is full.
+// Whether one of the first c flags is set.
+fn any_owed(owed: &[u8], c: usize) -> bool
+    requires { ⌜ c ≤ length (now owed) ⌝ }
+    ensures { λ r. ⌜ Quiet c (now (owed .entry)) r ⌝ }
+{
+    let mut j = 0;
+    while j < c {
+        if owed[j] == 1 {
+            return true;
+        }
+        j += 1;
+    }
+    false
+}
+
+// Back over the items of an epoch in the output: the last of each page that is owed a write becomes one.
+fn mend(
+    file: &[u8],
+    last: &[u32],
+    held: usize,
+    base: usize,
+    heads: &[u16],
+    next: &[u16],
+    out: &mut [u8],
+    from: usize,
+    to: usize,
+    owed: &mut [u8],
+)
+    requires { ⌜ IsFilter (now file) (now last) held base (now heads) (now next) ⌝ }
+    requires { ⌜ CanMend from to held (now out) (now owed) ⌝ }
+    ensures { λ _. ⌜ Mended (pagesIn (now (file .entry)) (now (last .entry)) held) (now (owed .entry)) from to (now (out .entry)) (now (out .exit)) ⌝ }
+{
+    if !any_owed(owed, held) {
+        return;
+    }
+    let mut k = to;
+    while from < k {
+        let a = k - 1;
+        let x = trace::read::item_at(out, a);
+        let j = filter::find(file, last, held, base, heads, next, x.page);
+        if j < owed.len() {
+            if owed[j] == 1 {
+                owed[j] = 0;
+                let y = Item {
+                    page: x.page,
+                    time: x.time,
+                    written: true,
+                };
+                trace::write::item(out, a, y);
+                k = a;
+            } else {
+                k = a;
+            }
+        } else {
+            k = a;
+        }
+    }
+}
+
+// All stretches, one after the other: the filter is emptied when it is full, and an epoch's items are mended when it ends.
 fn slim(
     file: &[u8],
     n: usize,
@@ -143,30 +238,35 @@ fn slim(
     last: &mut [u32],
     heads: &mut [u16],
     next: &mut [u16],
+    owed: &mut [u8],
     out: &mut [u8],
 ) -> usize
-    requires { ⌜ CanSlim (now file) n size (now last) (now heads) (now next) (now out) ⌝ }
+    requires { ⌜ CanSlim (now file) n size (now last) (now heads) (now next) (now owed) (now out) ⌝ }
     ensures { λ r. ⌜ r ≡ length (reduced mode size (itemsFrom (now (file .entry)) 0 n)) ⌝ }
     ensures { λ _. ⌜ now (out .exit) ≡ sets (now (out .entry)) 23 (encodeItems (reduced mode size (itemsFrom (now (file .entry)) 0 n))) ⌝ }
 {
     let mut i = 0;
     let mut held = 0;
     let mut base = 0;
+    let mut begun = 0;
     let mut m = 0;
     while i < n {
         let most = limit_of(mode, size, held);
         let s = look(file, n, i, most, last, base, heads, next, held);
         let end = s.end;
         let c = s.held;
-        m = keep(file, i, end, last, c, base, heads, next, held, out, m);
+        m = keep(file, i, end, last, c, base, heads, next, held, out, m, owed);
         i = end;
         if c == size {
+            mend(file, last, c, base, heads, next, out, begun, m, owed);
+            begun = m;
             held = 0;
             base = filter::empty(file, last, c, base, heads, next);
         } else {
             held = c;
         }
     }
+    mend(file, last, held, base, heads, next, out, begun, m, owed);
     m
 }
 
@@ -221,6 +321,7 @@ fn write_reduced(file: &[u8], mode: u64, size: u64, out: &mut [u8]) -> Header
     let mut last = [0u32; Filter::PLACES];
     let mut heads = [0u16; filter::BUCKETS];
     let mut next = [0u16; Filter::PLACES];
+    let mut owed = [0u8; Filter::PLACES];
     let h = trace::read::header_at(file);
     let n = h.items as usize;
     let m = slim(
@@ -231,6 +332,7 @@ fn write_reduced(file: &[u8], mode: u64, size: u64, out: &mut [u8]) -> Header
         &mut last,
         &mut heads,
         &mut next,
+        &mut owed,
         out,
     );
     let w = Header {
