@@ -197,6 +197,10 @@ keeping-none {done = done} held {out = out} p = record {
 
 module _ {file : List ℕ} {from end had done : ℕ} {filter last : List ℕ} {held : ℕ} {flags₀ out₀ : List ℕ} {k c m skip : ℕ} {flags out : List ℕ}
     (r : Keeping file from end had done filter last held flags₀ out₀ k c m skip flags out) where
+  -- There is a flag for each place.
+  pub keeping-long : Notes file last held filter → held ≤ length flags
+  keeping-long n = omega (arith, notes-long n, r .flags-long)
+
   module _ (h : k < end) {x : Item} (e : x ≡ itemAt file k) where
     -- What is left is the item that was read, and what is left after it.
     rest : itemsFrom file k (end - k) ≡ x ∷ itemsFrom file (k + 1) (end - (k + 1))
