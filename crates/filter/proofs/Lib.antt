@@ -1,4 +1,5 @@
 pub mod Noting
 pub mod Finding
+pub mod Flagged
 pub mod Filling
 pub mod Once

@@ -1,11 +1,11 @@
 -- The reducer's filter: a row of item numbers, one for each page that it holds, and chains by which a page is found. No page is stored: it is read from the file. Assumes nothing.
 use Prim.Native.Nat.{ℕ, _+_, _*_, _/_, _%_, _≤_, _<_}
 use mathlib.Core.Path.{_≡_}
-use mathlib.Core.Bool.{Bool, true, false, cond}
+use mathlib.Core.Bool.{Bool, true, false, cond, not}
 use mathlib.Core.List.{List, map}
 use lib.ListN.{length, getD, take, replicate}
-use lib.Dec.{ltb}
-use Rattle.pages.specs.Pages.{has, Distinct}
+use lib.Dec.{ltb, eqb}
+use Rattle.pages.specs.Pages.{has, place, Distinct}
 use Rattle.trace.specs.Layout.{itemAt}
 use Rattle.chains.specs.Chains.{at, Chained, mixed}
 
@@ -72,6 +72,16 @@ pub record FirstNoted (items : List ℕ) (k r : ℕ) : Type 0 where
   pub from : k ≤ r
   pub none : (i : ℕ) → k ≤ i → i < r → has i items ≡ false
   pub here : r ≡ k → has k items ≡ true
+
+-- ---- flags, one for each place
+
+-- Whether a flag is 1, or is not, as is asked.
+unfoldable pub flagIs : Bool → ℕ → Bool
+flagIs on flag = cond on (eqb flag 1) (not (eqb flag 1))
+
+-- The place of a page whose flag is as is asked, or how many pages there are.
+unfoldable pub placeIf : Bool → List ℕ → ℕ → List ℕ → ℕ
+placeIf on flags p l = cond (flagIs on (getD flags (place p l) 0)) (place p l) (length l)
 
 -- ---- emptying it
 

@@ -1,14 +1,14 @@
 // The reducer's filter, in 8 KiB: a four-byte item number for each page that it holds, and chains of two-byte places to find a page by.
 ghost use mathlib.Core.Path.{_≡_};
 ghost use Prim.Native.Nat.{_+_, _*_, _≤_, _<_};
-ghost use mathlib.Core.Bool.{true};
+ghost use mathlib.Core.Bool.{true, cond, _&&_};
 ghost use mathlib.Core.List.{[]};
 ghost use lib.ListN.{length, getD, take, set};
 ghost use lib.Dec.{eqb};
 ghost use Rattle.pages.specs.Pages.{has, add as added, place};
 ghost use Rattle.trace.specs.Layout.{itemAt};
 ghost use Rattle.chains.specs.Chains.{headsWith, nextWith};
-ghost use Rattle.filter.specs.Filter.{pagesIn, Stands, Notes, buckets, bucketOf, Holds, IsFilter, CanAdd, FirstNoted, emptyBase, emptyHeads};
+ghost use Rattle.filter.specs.Filter.{pagesIn, Stands, Notes, buckets, bucketOf, Holds, IsFilter, CanAdd, FirstNoted, flagIs, placeIf, emptyBase, emptyHeads};
 
 // How many heads there are. 1,024 of two bytes, with 1,024 places of four and two, make 8 KiB.
 pub const BUCKETS: usize = 1024;
@@ -102,6 +102,75 @@ pub fn find(
         }
         if left == 0 {
             return scan(file, last, held, page);
+        }
+        left -= 1;
+        e = chains::link(next, e - 1);
+    }
+    held
+}
+
+// Whether the flag of place j is as is asked.
+fn flag_is(flags: &[u8], on: bool, j: usize) -> bool
+    requires { ⌜ j < length (now flags) ⌝ }
+    ensures { λ r. ⌜ r ≡ flagIs on (getD (now (flags .entry)) j 0) ⌝ }
+{
+    if on {
+        return flags[j] == 1;
+    }
+    flags[j] != 1
+}
+
+// Whether place j has the page, and a flag as is asked. The flag is looked at first: the page has to be read from the file.
+fn is_flagged(file: &[u8], last: &[u32], flags: &[u8], on: bool, page: u64, j: usize) -> bool
+    requires { ⌜ Stands (now file) (now last) j ⌝ }
+    requires { ⌜ j < length (now flags) ⌝ }
+    ensures { λ r. ⌜ r ≡ flagIs on (getD (now (flags .entry)) j 0) && eqb (itemAt (now (file .entry)) (getD (now (last .entry)) j 0) .page) page ⌝ }
+{
+    if !flag_is(flags, on, j) {
+        return false;
+    }
+    page_at(file, last, j) == page
+}
+
+// Place j if it is one of those held and its flag is as is asked, or how many there are.
+fn if_flagged(flags: &[u8], on: bool, held: usize, j: usize) -> usize
+    requires { ⌜ held ≤ length (now flags) ⌝ }
+    requires { ⌜ j ≤ held ⌝ }
+    ensures { λ r. ⌜ r ≡ cond (flagIs on (getD (now (flags .entry)) j 0)) j held ⌝ }
+{
+    if held <= j {
+        return held;
+    }
+    if flag_is(flags, on, j) {
+        return j;
+    }
+    held
+}
+
+// The place of a page in the filter if its flag is as is asked, or how many pages the filter holds.
+pub fn find_flagged(
+    file: &[u8],
+    last: &[u32],
+    held: usize,
+    base: usize,
+    heads: &[u16],
+    next: &[u16],
+    flags: &[u8],
+    on: bool,
+    page: u64,
+) -> usize
+    requires { ⌜ IsFilter (now file) (now last) held base (now heads) (now next) ⌝ }
+    requires { ⌜ held ≤ length (now flags) ⌝ }
+    ensures { λ r. ⌜ r ≡ placeIf on (now (flags .entry)) page (pagesIn (now (file .entry)) (now (last .entry)) held) ⌝ }
+{
+    let mut left = LINKS;
+    let mut e = chains::head(base, heads, bucket(page));
+    while 0 < e {
+        if is_flagged(file, last, flags, on, page, e - 1) {
+            return e - 1;
+        }
+        if left == 0 {
+            return if_flagged(flags, on, held, scan(file, last, held, page));
         }
         left -= 1;
         e = chains::link(next, e - 1);

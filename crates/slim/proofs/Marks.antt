@@ -7,6 +7,7 @@ use lib.Dec.{leb, eqb}
 use Rattle.pages.specs.Rows.{consIf, flat}
 use Rattle.pages.specs.Pages.{has, add}
 use Rattle.pages.proofs.Choice.{split, same, eqb-self, or-false as none-of}
+use Rattle.pages.proofs.Added.{has-join}
 use Rattle.trace.specs.declared.Item.{Item}
 use Rattle.slim.specs.Epochs.{pages, cut, epochs}
 use Rattle.slim.specs.Keep.{isLast, keeps, kept, chosen, settle, owe, marked, reduce, lost, settled}
@@ -35,6 +36,12 @@ lost-absent m p seen owed (i ∷ e) h =
     let z = none-of (eqb p (i .page)) (has p (pages e)) h in
     let b = not (keeps m seen i e) && i .written in
     lost-absent m p (add (i .page) seen) (owe (keeps m seen i e) i owed) e (z .1) ∙ has-owe p b (i .page) owed ∙ rw (z .0, and-nothing b)
+
+-- The pages of two rows, one after the other.
+pub pages-join : (a b : List Item) → pages (a ++ b) ≡ pages a ++ pages b
+unfolding pages
+pages-join [] b = refl
+pages-join (i ∷ a) b = ap (_∷_ (i .page)) (pages-join a b)
 
 -- Every page of an epoch has an item that is kept.
 pub kept-pages : (m : Mode) (p : ℕ) (seen : List ℕ) (e : List Item) → has p (pages (kept m seen e)) ≡ has p (pages e)
@@ -72,18 +79,36 @@ marked-settled m seen owed (i ∷ e) =
     (settle-alike i owed (lost m s owed e) e (kept m s e) (sym (kept-pages m (i .page) s e)) (λ h. sym (lost-absent m (i .page) s owed e h)))))
     (λ k. rw k (marked-settled m s (consIf (i .written) (i .page) owed) e))
 
--- With nothing owed an item stays as it is.
-pub settle-none : (owed : List ℕ) (i : Item) (rest : List Item) → has (i .page) owed ≡ false → settle owed i rest ≡ i
+-- An item that is not the last of its page, or whose page is not owed a write, stays as it is.
+settle-stays : (owed : List ℕ) (i : Item) (rest : List Item) → isLast i rest && has (i .page) owed ≡ false → settle owed i rest ≡ i
 unfolding settle
-settle-none owed i rest h =
-    let w : i .written || (isLast i rest && has (i .page) owed) ≡ i .written = rw (h, and-nothing (isLast i rest), or-false) in
+settle-stays owed i rest h =
+    let w : i .written || (isLast i rest && has (i .page) owed) ≡ i .written = rw (h, or-false) in
     λ j. record { page = i .page; time = i .time; written = w j }
 
+settle-none : (owed : List ℕ) (i : Item) (rest : List Item) → has (i .page) owed ≡ false → settle owed i rest ≡ i
+settle-none owed i rest h = settle-stays owed i rest (rw h (and-nothing (isLast i rest)))
+
+later-not : (a b c : Bool) → not b && c ≡ false → not (a || b) && c ≡ false
+later-not true b c h = refl
+later-not false b c h = h
+
+-- Of a row the front stays as it is if each of its pages comes again behind it, or is not owed a write.
+pub settled-front : (owed : List ℕ) (a c : List Item) → ((p : ℕ) → has p (pages a) ≡ true → not (has p (pages c)) && has p owed ≡ false)
+    → settled owed (a ++ c) ≡ a ++ settled owed c
+unfolding settled has pages isLast
+settled-front owed [] c f = refl
+settled-front owed (i ∷ a) c f =
+    let p = i .page in
+    let w = later-not (has p (pages a)) (has p (pages c)) (has p owed) (f p (rw eqb-self)) in
+    let joined : has p (pages (a ++ c)) ≡ has p (pages a) || has p (pages c) = rw (pages-join a c) (has-join p (pages a) (pages c)) in
+    rw (settle-stays owed i (a ++ c) (rw joined w), settled-front owed a c (λ q h. f q (rw (h, or-true))))
+
 -- A row of whose pages none is owed a write stays as it is.
-pub settled-none : (owed : List ℕ) (u : List Item) → ((p : ℕ) → has p (pages u) ≡ true → has p owed ≡ false) → settled owed u ≡ u
-unfolding settled has pages
+settled-none : (owed : List ℕ) (u : List Item) → ((p : ℕ) → has p owed ≡ false) → settled owed u ≡ u
+unfolding settled
 settled-none owed [] f = refl
-settled-none owed (i ∷ u) f = rw (settle-none owed i u (f (i .page) (rw eqb-self)), settled-none owed u (λ p h. f p (rw (h, or-true))))
+settled-none owed (i ∷ u) f = rw (settle-none owed i u (f (i .page)), settled-none owed u f)
 
 -- ---- the client's sentence
 
@@ -144,7 +169,7 @@ unfolding flat
 all-as-kept m [] n = refl
 all-as-kept m (e ∷ es) n =
     let r = lasts-become-writes m e in
-    rw (r .lasts-written, settled-none (r .owed) (kept m [] e) (λ p h. r .owed-are p ∙ n .0 p), all-as-kept m es (n .1))
+    rw (r .lasts-written, settled-none (r .owed) (kept m [] e) (λ p. r .owed-are p ∙ n .0 p), all-as-kept m es (n .1))
 
 -- Where no write is dropped nothing is marked.
 pub none-dropped-no-marks : NoneDroppedNoMarks

@@ -2,7 +2,7 @@
 use Prim.Native.Nat.{ℕ, suc, _+_, _-_, _*_, _^_, _≤_, _<_}
 use mathlib.Core.Path.{_≡_, refl, sym, ap, _∙_}
 use mathlib.Core.Logic.{_≢_}
-use mathlib.Core.Bool.{Bool, true, false, not, _||_, _&&_, or-false, or-true}
+use mathlib.Core.Bool.{true, false, not, _||_, _&&_, or-false, or-true}
 use mathlib.Core.List.{List, [], _∷_, _++_, append-nil, append-assoc}
 use native.Mathlib.Omega.{arith}
 use lib.ListN.{length, getD, set, length-append, length-set}
@@ -17,10 +17,12 @@ use Rattle.trace.specs.Layout.{itemAt, encodeItem, encodeItems}
 use Rattle.trace.specs.declared.Item.{Item}
 use Rattle.trace.proofs.Items.{length-encodeItems}
 use Rattle.trace.proofs.Output.{wrote-item, wrote-again}
+use Rattle.filter.specs.Filter.{flagIs, placeIf}
 use Rattle.slim.specs.Epochs.{pages}
 use Rattle.slim.specs.Keep.{isLast, settle, settled}
-use Rattle.slim.specs.Passes.{Owes, Quiet, CanMend, Fit, Stand, Mended}
-use Rattle.slim.proofs.Marks.{settled-none}
+use Rattle.slim.specs.Passes.{flagsSet, CanMend, Fit, Stand, Mended}
+use Rattle.slim.proofs.Marks.{pages-join, settled-front}
+use Rattle.slim.proofs.Flags.{flags-none, flags-less}
 
 -- ---- a row of items, from its end
 
@@ -45,22 +47,6 @@ fit-behind : (a b : List Item) → Fit (a ++ b) → Fit b
 fit-behind [] b f = f
 fit-behind (i ∷ a) b f = fit-behind a b (f .2)
 
-pub pages-join : (a b : List Item) → pages (a ++ b) ≡ pages a ++ pages b
-unfolding pages
-pages-join [] b = refl
-pages-join (i ∷ a) b = ap (_∷_ (i .page)) (pages-join a b)
-
--- ---- nothing is owed
-
--- Where no flag is set all is as it should be.
-pub mending-quiet : (filter flags : List ℕ) (from to : ℕ) (out : List ℕ) {c : ℕ} {r : Bool} → length filter ≡ c → Quiet c flags r → r ≡ false → Mended filter flags from to out out
-mending-quiet filter flags from to out n q e = record {
-  settles = λ old u owed s. s .wrote ∙ ap (λ (t : List Item). sets old (23 + 19 * from) (encodeItems t))
-      (sym (settled-none owed u (λ p h.
-      let k = s .known p h in
-      sym (s .owes .flagged p k) ∙ ne-eqb _ 1 (q .none e (place p filter) (omega (arith, place-within p filter k))))));
-}
-
 -- ---- the loop: from item k on the items are settled
 
 -- The items `back` of u are settled, and the flags say what is owed to those before them.
@@ -72,7 +58,9 @@ pub record Settling (filter flags out : List ℕ) (from k : ℕ) (old : List ℕ
   pub wrote : out ≡ sets old (23 + 19 * from) (encodeItems (before ++ settled owed back))
   pub flagged : (p : ℕ) → has p filter ≡ true → eqb (getD flags (place p filter) 0) 1 ≡ not (has p (pages back)) && has p owed
 
-pub record Mending (filter flags₀ : List ℕ) (from to : ℕ) (out₀ flags out : List ℕ) (k : ℕ) : Type 0 where
+pub record Mending (filter flags₀ : List ℕ) (held from to : ℕ) (out₀ flags out : List ℕ) (k left : ℕ) : Type 0 where
+  pub long : length filter ≡ held
+  pub left-is : left ≡ flagsSet held flags
   pub begins : from ≤ k
   pub ends : k ≤ to
   pub room : 23 + 19 * to ≤ length out
@@ -83,9 +71,11 @@ pub record Mending (filter flags₀ : List ℕ) (from to : ℕ) (out₀ flags ou
 
 -- Nothing is settled yet.
 pub mending-none : (filter flags : List ℕ) (from to held : ℕ) (out : List ℕ) → length filter ≡ held → CanMend from to held out flags
-    → Mending filter flags from to out flags out to
+    → {left : ℕ} → left ≡ flagsSet held flags → Mending filter flags held from to out flags out to left
 unfolding has pages settled
-mending-none filter flags from to held out l can = record {
+mending-none filter flags from to held out l can c = record {
+  long = l;
+  left-is = c;
   begins = can .within;
   ends = omega arith;
   room = can .room;
@@ -102,7 +92,25 @@ mending-none filter flags from to held out l can = record {
   };
 }
 
-module _ {filter flags₀ : List ℕ} {from to : ℕ} {out₀ flags out : List ℕ} {k : ℕ} (r : Mending filter flags₀ from to out₀ flags out k) where
+module _ {filter flags₀ : List ℕ} {held from to : ℕ} {out₀ flags out : List ℕ} {k left : ℕ} (r : Mending filter flags₀ held from to out₀ flags out k left) where
+  -- There is a flag for each place.
+  pub mending-long : held ≤ length flags
+  mending-long = omega (arith, r .long, r .flags-long)
+
+  -- No flag is set: the items before are settled too.
+  pub mending-stop : left ≡ 0 → Mended filter flags₀ from to out₀ out
+  mending-stop z = record {
+    settles = λ old u owed s.
+        let b = r .settling old u owed s in
+        let none : flagsSet held flags ≡ 0 = sym (r .left-is) ∙ z in
+        let front = settled-front owed (b .before) (b .back) (λ p h.
+        let joined : has p (pages (b .before ++ b .back)) ≡ true =
+        rw (pages-join (b .before) (b .back), has-join p (pages (b .before)) (pages (b .back)), h) in
+        let known = s .known p (rw (← b .are) at joined) in
+        sym (b .flagged p known) ∙ ne-eqb _ 1 (flags-none held flags none (place p filter) (omega (arith, place-within p filter known, r .long)))) in
+        b .wrote ∙ ap (λ (t : List Item). sets old (23 + 19 * from) (encodeItems t)) (sym front ∙ ap (settled owed) (sym (b .are)));
+  }
+
   -- All is settled.
   pub mending-all : k ≤ from → Mended filter flags₀ from to out₀ out
   mending-all h = record {
@@ -117,7 +125,23 @@ module _ {filter flags₀ : List ℕ} {from to : ℕ} {out₀ flags out : List �
       all old owed [] c n e w = rw e w
       all old owed (i ∷ a) c n e w = absurd (omega arith)
 
-  module _ (h : from < k) {x : Item} (e : x ≡ itemAt out (k - 1)) {j : ℕ} (f : j ≡ place (x .page) filter) where
+  module _ (h : from < k) {x : Item} (e : x ≡ itemAt out (k - 1)) {j : ℕ} (f : j ≡ placeIf true flags (x .page) filter) where
+    -- The page of the item is owed a write, and has place j,
+    found : j < held → (j ≡ place (x .page) filter) × (getD flags j 0 ≡ 1)
+    unfolding flagIs placeIf
+    found o =
+        split (eqb (getD flags (place (x .page) filter) 0) 1)
+        (λ t. let q : j ≡ place (x .page) filter = rw t at f in (q, rw q (same _ 1 t)))
+        (λ t. absurd (let q : j ≡ length filter = rw t at f in omega (arith, r .long)))
+
+    -- or it is not.
+    missed : held ≤ j → place (x .page) filter < length filter → getD flags (place (x .page) filter) 0 ≡ 1 → ⊥
+    unfolding flagIs placeIf
+    missed o w g =
+        let t = eq-eqb _ 1 g in
+        let q : j ≡ place (x .page) filter = rw t at f in
+        omega (arith, r .long)
+
     -- A turn, of what stands there whatever it is.
     record Turn (old : List ℕ) (u : List Item) (owed : List ℕ) : Type 0 where
       front : List Item
@@ -163,13 +187,17 @@ module _ {filter flags₀ : List ℕ} {from to : ℕ} {out₀ flags out : List �
         }
 
     -- The flag of a page of the filter is its own.
-    own : (old : List ℕ) (u : List Item) (owed : List ℕ) (t : Turn old u owed) → eqb (getD flags j 0) 1 ≡ not (has (x .page) (pages (t .back))) && has (x .page) owed
-    own old u owed t = rw f (t .flagged (x .page) (t .known))
+    own : (old : List ℕ) (u : List Item) (owed : List ℕ) (t : Turn old u owed)
+        → eqb (getD flags (place (x .page) filter) 0) 1 ≡ not (has (x .page) (pages (t .back))) && has (x .page) owed
+    own old u owed t = t .flagged (x .page) (t .known)
 
     -- A turn is done.
-    go : (flags′ out′ : List ℕ) → length flags′ ≡ length flags → length out′ ≡ length out
-        → ((old : List ℕ) (u : List Item) (owed : List ℕ) → Turn old u owed → Settling filter flags′ out′ from (k - 1) old u owed) → Mending filter flags₀ from to out₀ flags′ out′ (k - 1)
-    go flags′ out′ a b c = record {
+    go : (flags′ out′ : List ℕ) {left′ : ℕ} → length flags′ ≡ length flags → length out′ ≡ length out → left′ ≡ flagsSet held flags′
+        → ((old : List ℕ) (u : List Item) (owed : List ℕ) → Turn old u owed → Settling filter flags′ out′ from (k - 1) old u owed)
+        → Mending filter flags₀ held from to out₀ flags′ out′ (k - 1) left′
+    go flags′ out′ a b n c = record {
+      long = r .long;
+      left-is = n;
       begins = omega arith;
       ends = omega (arith, r .ends);
       room = rw b (r .room);
@@ -180,38 +208,40 @@ module _ {filter flags₀ : List ℕ} {from to : ℕ} {out₀ flags out : List �
     }
 
     -- The page of the item is owed a write: it becomes one, and its flag is cleared.
-    pub mending-set : getD flags j 0 ≡ 1 → j < length flags → {out′ : List ℕ} → out′ ≡ sets out (23 + 19 * (k - 1)) (encodeItem (record { page = x .page; time = x .time; written = true }))
-        → Mending filter flags₀ from to out₀ (set flags j 0) out′ (k - 1)
+    pub mending-set : j < held → {out′ : List ℕ} → out′ ≡ sets out (23 + 19 * (k - 1)) (encodeItem (record { page = x .page; time = x .time; written = true }))
+        → Mending filter flags₀ held from to out₀ (set flags j 0) out′ (k - 1) (left - 1)
     unfolding has pages isLast settle settled
-    mending-set z l {out′} w =
+    mending-set o {out′} w =
+        let (q, z) = found o in
+        let l : j < length flags = omega (arith, r .long, r .flags-long) in
         let y : Item = record { page = x .page; time = x .time; written = true } in
-        go (set flags j 0) out′ (length-set flags j 0) (ap length w ∙ length-sets out (23 + 19 * (k - 1)) (encodeItem y)) (λ old u owed t.
-        let o : not (has (x .page) (pages (t .back))) && has (x .page) owed ≡ true = sym (own old u owed t) ∙ eq-eqb (getD flags j 0) 1 z in
+        let less = flags-less held flags j o z l in
+        go (set flags j 0) out′ (length-set flags j 0) (ap length w ∙ length-sets out (23 + 19 * (k - 1)) (encodeItem y)) (omega (arith, less, r .left-is)) (λ old u owed t.
+        let v : not (has (x .page) (pages (t .back))) && has (x .page) owed ≡ true = sym (own old u owed t) ∙ rw q at (eq-eqb (getD flags j 0) 1 z) in
         let at : k - 1 ≡ from + length (t .front) = omega (arith, t .at) in
-        let settles : settle owed x (t .back) ≡ y = rw (o, or-true (x .written)) in
-        let v : out′ ≡ sets out (23 + 19 * (from + length (t .front))) (encodeItem y) = rw at at w in
-        let bytes = wrote-again from (t .front) (settled owed (t .back)) old (t .long) x y (t .wrote) v in
+        let settles : settle owed x (t .back) ≡ y = rw (v, or-true (x .written)) in
+        let bytes = wrote-again from (t .front) (settled owed (t .back)) old (t .long) x y (t .wrote) (rw at at w) in
         record {
           before = t .front;
           back = x ∷ t .back;
           are = t .are;
           at = at;
           wrote = rw settles bytes;
-          flagged = λ q h. split (eqb q (x .page))
-              (λ g. rw (same q (x .page) g, ← f, getD-set-same flags j 0 0 l, eqb-self (x .page)))
-              (λ g. let d : place q filter ≢ j = λ c. eqb-false q (x .page) g (place-same (x .page) q filter h (c ∙ f)) in
-              rw (g, getD-set-other flags j (place q filter) 0 0 d) (t .flagged q h));
+          flagged = λ p g. split (eqb p (x .page))
+              (λ c. rw (same p (x .page) c, ← q, getD-set-same flags j 0 0 l, eqb-self (x .page)))
+              (λ c. let d : place p filter ≢ j = λ i. eqb-false p (x .page) c (place-same (x .page) p filter g (i ∙ q)) in
+              rw (c, getD-set-other flags j (place p filter) 0 0 d) (t .flagged p g));
         })
 
     -- It is not: the item stays.
-    pub mending-leave : (getD flags j 0 ≡ 1 → ⊥) → Mending filter flags₀ from to out₀ flags out (k - 1)
+    pub mending-leave : held ≤ j → Mending filter flags₀ held from to out₀ flags out (k - 1) left
     unfolding has pages isLast settle settled
-    mending-leave z =
-        go flags out refl refl (λ old u owed t.
-        let n : eqb (getD flags j 0) 1 ≡ false = ne-eqb (getD flags j 0) 1 z in
-        let o : not (has (x .page) (pages (t .back))) && has (x .page) owed ≡ false = sym (own old u owed t) ∙ n in
+    mending-leave o =
+        go flags out refl refl (r .left-is) (λ old u owed t.
+        let n : eqb (getD flags (place (x .page) filter) 0) 1 ≡ false = ne-eqb _ 1 (missed o (place-within (x .page) filter (t .known))) in
+        let v : not (has (x .page) (pages (t .back))) && has (x .page) owed ≡ false = sym (own old u owed t) ∙ n in
         let at : k - 1 ≡ from + length (t .front) = omega (arith, t .at) in
-        let stays : x .written || (not (has (x .page) (pages (t .back))) && has (x .page) owed) ≡ x .written = rw (o, or-false) in
+        let stays : x .written || (not (has (x .page) (pages (t .back))) && has (x .page) owed) ≡ x .written = rw (v, or-false) in
         let settles : settle owed x (t .back) ≡ x = λ i. record { page = x .page; time = x .time; written = stays i } in
         record {
           before = t .front;
@@ -219,11 +249,7 @@ module _ {filter flags₀ : List ℕ} {from to : ℕ} {out₀ flags out : List �
           are = t .are;
           at = at;
           wrote = rw settles (t .wrote);
-          flagged = λ q h. split (eqb q (x .page))
-              (λ g. rw (same q (x .page) g, ← f, eqb-self (x .page)) n)
-              (λ g. rw g (t .flagged q h));
+          flagged = λ p g. split (eqb p (x .page))
+              (λ c. rw (same p (x .page) c, eqb-self (x .page)) n)
+              (λ c. rw c (t .flagged p g));
         })
-
-    -- A page of the filter has a flag.
-    pub mending-beyond : length flags ≤ j → Mending filter flags₀ from to out₀ flags out (k - 1)
-    mending-beyond l = go flags out refl refl (λ old u owed t. absurd (omega (arith, place-within (x .page) filter (t .known), r .flags-long)))

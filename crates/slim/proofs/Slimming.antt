@@ -33,8 +33,8 @@ use Rattle.slim.proofs.Through.{Next}
 use Rattle.slim.proofs.Kept.{kept-sub}
 use Rattle.slim.proofs.Order.{sub-length}
 use Rattle.slim.proofs.Flags.{owes-none}
-use Rattle.slim.proofs.Marks.{kept-pages}
-use Rattle.slim.proofs.Mending.{length-settled, pages-join}
+use Rattle.slim.proofs.Marks.{pages-join, kept-pages}
+use Rattle.slim.proofs.Mending.{length-settled}
 use Rattle.slim.proofs.Keeping.{filter-grows, filter-begins}
 
 -- ---- the items of a file fit

@@ -1,7 +1,7 @@
 -- The two passes over a stretch of a trace, an epoch or a phase: what the code's functions are told, and what they leave. Assumes nothing.
-use Prim.Native.Nat.{ℕ, suc, _+_, _-_, _*_, _^_, _≤_, _<_}
+use Prim.Native.Nat.{ℕ, zero, suc, _+_, _-_, _*_, _^_, _≤_, _<_}
 use mathlib.Core.Path.{_≡_}
-use mathlib.Core.Bool.{Bool, true, false, cond}
+use mathlib.Core.Bool.{true, false, cond}
 use mathlib.Core.List.{List, [], _∷_}
 use lib.ListN.{length, getD, take}
 use lib.Seq.{sets}
@@ -83,9 +83,10 @@ pub record Flags (file : List ℕ) (from end had : ℕ) (filter flags flags′ :
 
 -- ---- back over an epoch
 
--- Where r is false, none of the first c flags is set.
-pub record Quiet (c : ℕ) (flags : List ℕ) (r : Bool) : Type 0 where
-  pub none : r ≡ false → (j : ℕ) → j < c → getD flags j 0 ≡ 1 → ⊥
+-- How many of the first c flags are set.
+unfoldable pub flagsSet : ℕ → List ℕ → ℕ
+flagsSet zero flags = 0
+flagsSet (suc j) flags = cond (eqb (getD flags j 0) 1) (suc (flagsSet j flags)) (flagsSet j flags)
 
 -- The items of the epoch are in the output from item `from` up to item `to`, and there is a flag for each of the `held` places.
 pub record CanMend (from to held : ℕ) (out flags : List ℕ) : Type 0 where

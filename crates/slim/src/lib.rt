@@ -19,7 +19,7 @@ ghost use Rattle.trace.specs.declared.Verdict.the-variants.{Sound};
 ghost use Rattle.trace.specs.Layout.{encodeItems, itemsFrom};
 ghost use Rattle.slim.specs.Keep.{reduce as reduced};
 ghost use Rattle.slim.specs.Reduce.{isMode, modeOf, reducedHeader, reducedFile, reduceVerdict, reduceAnswer, reduceOut};
-ghost use Rattle.slim.specs.Passes.{limit, CanLook, Looked, Within, CanKeep, keptThere, Flags, Quiet, CanMend, Mended, CanSlim};
+ghost use Rattle.slim.specs.Passes.{limit, CanLook, Looked, Within, CanKeep, keptThere, Flags, flagsSet, CanMend, Mended, CanSlim};
 
 // FastSlim, or FastSlim-Demand.
 pub enum Mode {
@@ -86,7 +86,7 @@ fn look(
     Reach { end: k, held: c }
 }
 
-// A write of this page is dropped: the page is owed one.
+// A write of this page is dropped: the page is owed one. Where it is owed one already, which is often so, its flag tells that, and no page is read.
 fn owe(
     file: &[u8],
     last: &[u32],
@@ -102,7 +102,10 @@ fn owe(
     requires { ⌜ held ≤ length (now owed) ⌝ }
     ensures { λ _. ⌜ now (owed .exit) ≡ set (now (owed .entry)) (place page (pagesIn (now (file .entry)) (now (last .entry)) held)) 1 ⌝ }
 {
-    let j = filter::find(file, last, held, base, heads, next, page);
+    let j = filter::find_flagged(file, last, held, base, heads, next, owed, false, page);
+    if held <= j {
+        return;
+    }
     owed[j] = 1;
 }
 
@@ -170,22 +173,25 @@ fn keep(
     m
 }
 
-// Whether one of the first c flags is set.
-fn any_owed(owed: &[u8], c: usize) -> bool
+// How many of the first c flags are set.
+fn count_owed(owed: &[u8], c: usize) -> usize
     requires { ⌜ c ≤ length (now owed) ⌝ }
-    ensures { λ r. ⌜ Quiet c (now (owed .entry)) r ⌝ }
+    ensures { λ r. ⌜ r ≡ flagsSet c (now (owed .entry)) ⌝ }
 {
     let mut j = 0;
+    let mut n = 0;
     while j < c {
         if owed[j] == 1 {
-            return true;
+            n += 1;
+            j += 1;
+        } else {
+            j += 1;
         }
-        j += 1;
     }
-    false
+    n
 }
 
-// Back over the items of an epoch in the output: the last of each page that is owed a write becomes one.
+// Back over the items of an epoch in the output, until all is settled: the last of each page that is owed a write becomes one.
 fn mend(
     file: &[u8],
     last: &[u32],
@@ -202,27 +208,25 @@ fn mend(
     requires { ⌜ CanMend from to held (now out) (now owed) ⌝ }
     ensures { λ _. ⌜ Mended (pagesIn (now (file .entry)) (now (last .entry)) held) (now (owed .entry)) from to (now (out .entry)) (now (out .exit)) ⌝ }
 {
-    if !any_owed(owed, held) {
-        return;
-    }
+    let mut left = count_owed(owed, held);
     let mut k = to;
     while from < k {
+        if left == 0 {
+            return;
+        }
         let a = k - 1;
         let x = trace::read::item_at(out, a);
-        let j = filter::find(file, last, held, base, heads, next, x.page);
-        if j < owed.len() {
-            if owed[j] == 1 {
-                owed[j] = 0;
-                let y = Item {
-                    page: x.page,
-                    time: x.time,
-                    written: true,
-                };
-                trace::write::item(out, a, y);
-                k = a;
-            } else {
-                k = a;
-            }
+        let j = filter::find_flagged(file, last, held, base, heads, next, owed, true, x.page);
+        if j < held {
+            owed[j] = 0;
+            left -= 1;
+            let y = Item {
+                page: x.page,
+                time: x.time,
+                written: true,
+            };
+            trace::write::item(out, a, y);
+            k = a;
         } else {
             k = a;
         }

@@ -1,21 +1,51 @@
 -- `slim::mend` meets its contract. Assumes nothing.
 use Prim.Native.Nat.{_-_}
-use native.Mathlib.Omega.{arith}
 use borrow.Author.Needs.{needs}
-use borrow.Author.Tests.{not-true}
 use Rattle.filter.specs.Filter.{pagesIn}
 use Rattle.filter.proofs.Noting.{notes-long}
-use Rattle.slim.proofs.Mending.{Mending, mending-quiet, mending-none, mending-all, mending-set, mending-leave, mending-beyond}
+use Rattle.slim.proofs.Mending.{Mending, mending-none, mending-long, mending-stop, mending-all, mending-set, mending-leave}
 use Rattle.slim.proofs.mend.Statement.{statement}
 use Rattle.slim.proofs.mend.Tie as tie
 
-ruleset laws = (mending-none, mending-all, notes-long, needs)
+ruleset laws = (mending-none, mending-stop, mending-all, notes-long, needs)
 
 abbrev Inv-loop : tie.InvT-loop
-Inv-loop file last held base heads next out₀ from to owed₀ k₀ out owed k = Mending (pagesIn file last held) owed₀ from to out₀ owed out k
+Inv-loop file last held base heads next out₀ from to owed₀ left₀ k₀ out owed left k = Mending (pagesIn file last held) owed₀ held from to out₀ owed out k left
 
 abbrev μ-loop : tie.MeasureT-loop
-μ-loop file last held base heads next out₀ from to owed₀ k₀ out owed k = k - from
+μ-loop file last held base heads next out₀ from to owed₀ left₀ k₀ out owed left k = k - from
+
+-- An item's page may be looked for by its flag.
+may-find : tie.Need-find-flagged-requires Inv-loop μ-loop
+may-find c κs =
+    let at = c .before .before .before .before .before in
+    let start = at .before .before .before .before .before .before .before .before .before in
+    (start .pre .0, mending-long (at .loop .inv))
+
+-- Its page has a flag.
+flag-there : tie.Need-slice-write-owed Inv-loop μ-loop
+flag-there c =
+    let at = c .before .before .before .before .before .before .before in
+    let long = mending-long (at .loop .inv) in
+    search needs
+
+-- A turn settles the last item of a page that is owed a write,
+one-set : tie.Need-loop-again Inv-loop μ-loop
+one-set c =
+    let written = c .before .before in
+    let flagged = written .before .before in
+    let found = flagged .before in
+    let read = found .before .before in
+    let turn = read .before .before .before in
+    mending-set (turn .before .loop .inv) (turn .loop-test .taken) (read .item-at .ensures) (found .find-flagged .ensures) (flagged .if2 .taken) (written .item .ensures)
+
+-- or leaves an item as it is.
+one-left : tie.Need-loop-again-2 Inv-loop μ-loop
+one-left c =
+    let found = c .before in
+    let read = found .before .before in
+    let turn = read .before .before .before in
+    mending-leave (turn .before .loop .inv) (turn .loop-test .taken) (read .item-at .ensures) (found .find-flagged .ensures) (c .if2 .left)
 
 pub mend-spec : {M : Type 1} → statement M
 mend-spec =
@@ -25,20 +55,19 @@ mend-spec =
     μ-loop
     (λ c κs. search laws)
     (λ c. search laws)
-    (λ c. search (mending-quiet, notes-long, not-true))
+    (λ c. search laws)
+    (λ c. search laws)
     (λ c. search laws)
     (λ c. search laws)
     (λ c κs. search laws)
+    may-find
+    flag-there
+    (λ c. search laws)
     (λ c κs. search laws)
     (λ c. search laws)
+    one-set
     (λ c. search laws)
-    (λ c κs. search laws)
-    (λ c. search laws)
-    (λ c. search mending-set)
-    (λ c. search laws)
-    (λ c. search mending-leave)
-    (λ c. search laws)
-    (λ c. search mending-beyond)
+    one-left
     (λ c. search laws)
     (λ c. search laws)
     (λ c. search laws))

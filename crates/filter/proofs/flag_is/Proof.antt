@@ -1,0 +1,14 @@
+-- `filter::flag_is` meets its contract. Assumes nothing.
+use borrow.Author.Needs.{needs}
+use Rattle.filter.proofs.Flagged.{flag-on, flag-off}
+use Rattle.filter.proofs.flag_is.Statement.{statement}
+use Rattle.filter.proofs.flag_is.Tie as tie
+
+pub flag-is-spec : {M : Type 1} → statement M
+flag-is-spec =
+    tie.close
+    (tie.spec
+    (λ c. search needs)
+    (λ c. search flag-on)
+    (λ c. search needs)
+    (λ c. search flag-off))
