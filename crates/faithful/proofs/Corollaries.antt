@@ -1,12 +1,14 @@
 -- What follows from demand 3, and that its premises can be met. Assumes nothing.
-use Prim.Native.Nat.{ℕ, _*_, _≤_}
+use Prim.Native.Nat.{ℕ, suc, _*_, _≤_}
 use mathlib.Core.Path.{_≡_, refl, sym, ap, _∙_}
-use mathlib.Core.Bool.{true}
-use mathlib.Core.List.{List, [], _∷_, map}
+use mathlib.Core.Bool.{Bool, true, cond}
+use mathlib.Core.List.{List, [], _∷_, _++_, map}
 use native.Mathlib.Omega.{arith}
-use lib.ListN.{length}
+use lib.ListN.{length, take}
+use lib.Dec.{eqb}
 use Rattle.limits.proofs.Numbers.{itemsMost}
-use Rattle.pages.specs.Rows.{flat}
+use Rattle.pages.specs.Rows.{flat, over}
+use Rattle.frames.specs.declared.Frame.{Frame}
 use Rattle.trace.specs.Layout.{Trace, header, items, decode}
 use Rattle.trace.specs.Rules.{ItemFits, ItemsFit, Rising, Allowed}
 use Rattle.trace.specs.Promises.{IsFile}
@@ -23,11 +25,14 @@ use Rattle.slim.specs.declared.Mode.{Mode}
 use Rattle.slim.specs.declared.Mode.the-variants.{FastSlim, Demand}
 use Rattle.join.specs.Trees.{Tree, files, joined, Within, headerOfAll}
 use Rattle.join.proofs.Trees.{joins-trees, sums-enough, joins-associate}
+use Rattle.lru.specs.Lru.{Event, Outcome, cost, words}
+use Rattle.replays.specs.Replay.{replayOf}
 use Rattle.faithful.specs.Parts.{Part, recorded}
 use Rattle.faithful.specs.Demand3.{Portion, IsPortion, IsCut, short, IsCache}
-use Rattle.faithful.specs.Corollaries.{modeNumber, wholeFile, portionOf, FitsAFile, CutAnywhere, AnyBracketing, SameReplay, LikeTheWholeFile}
+use Rattle.faithful.specs.Corollaries.{modeNumber, wholeFile, portionOf, FitsAFile, CutAnywhere, AnyBracketing}
+use Rattle.faithful.specs.Corollaries.{secondTransfers, toldTransfers, SecondTransfersAlike, SameReplay, LikeTheWholeFile}
 use Rattle.faithful.proofs.Portions.{items-at-most, references-are}
-use Rattle.faithful.proofs.Files.{taken, replays-as, recording-is, are-files, rises, faithful}
+use Rattle.faithful.proofs.Files.{taken, replays-as, recording-is, are-files, rises, join-alike, faithful}
 
 -- ---- cut anywhere
 
@@ -95,6 +100,25 @@ any-bracketing t r ps c i j p o =
     let (w, e) = joins-associate i j (p .in-order ∙ sym o) (are-files t up ps c i (p .in-order)) (rises t up ps c i (p .in-order)) (p .within) in
     (record { in-order = o; within = w }, e)
 
+-- ---- second transfers
+
+-- The fourth numbers of some fetches tell their second transfers.
+told-words : (es : List Event) (rest : List ℕ) → toldTransfers (length es) (words es ++ rest) ≡ secondTransfers es
+unfolding toldTransfers secondTransfers words
+told-words [] rest = refl
+told-words (e ∷ es) rest = ap (λ (n : ℕ). cond (eqb (cost (e .evicted)) 2) (suc n) n) (told-words es rest)
+
+-- The join costs as many second transfers as the recording, and tells them.
+pub second-transfers-alike : SecondTransfersAlike
+unfolding over replayOf
+second-transfers-alike t r ps c j o K frames resident k events room =
+    let up = r .rising in
+    let p = faithful t up ps c j (o .in-order) (o .within) K frames resident k events room .replays in
+    record {
+      as-many = ap (λ (x : Outcome). secondTransfers (x .events)) (join-alike t up ps c j (o .in-order) (o .within) K (k .filters) (take resident frames));
+      told = rw (p .fetches) (told-words _ _);
+    }
+
 -- ---- a recording that is one file
 
 module _ (f : List ℕ) (a : IsFile f) (z : header f .kind ≡ 0) (ps : List Portion) (c : IsCut (items f) ps) (j : Tree) (o : files j ≡ map short ps) where
@@ -119,22 +143,29 @@ module _ (f : List ℕ) (a : IsFile f) (z : header f .kind ≡ 0) (ps : List Por
   fewer = rw (joins-trees j (are-files (items f) up ps c j o) (rises (items f) up ps c j o) within .header-is) (sums .0)
 
   -- With room for the file the join leaves what the file leaves.
-  same-replay : (K : ℕ) (cache : List ℕ) (resident : ℕ) → IsCache ps K cache resident → (events : List ℕ) → 3 * header f .items ≤ length events
-      → SameReplay (joined j) f K cache resident events
-  same-replay K cache resident k events room =
+  same-replay : (K : ℕ) (frames : List Frame) (resident : ℕ) → IsCache ps K frames resident → (events : List ℕ) → 4 * header f .items ≤ length events
+      → SameReplay (joined j) f K frames resident events
+  unfolding replayOf
+  same-replay K frames resident k events room =
       let (filter, _) = accepted-facts f (header f) (a .accepted) .whole z in
       let n = fewer in
-      let p = faithful (items f) up ps c j o within K cache resident k events (omega arith) .replays in
-      let q = replays-as f K cache resident events a (taken f K cache resident events a ps k (omega arith) room) (items f) refl in
-      record { first-as = p; second-as = q; events-same = p .fetches ∙ sym (q .fetches); residents-same = p .residents ∙ sym (q .residents) }
+      let p = faithful (items f) up ps c j o within K frames resident k events (omega arith) .replays in
+      let q = replays-as f K frames resident events a (taken f K frames resident events a ps k (omega arith) room) (items f) refl in
+      record {
+        first-as = p;
+        second-as = q;
+        events-same = p .fetches ∙ sym (q .fetches);
+        residents-same = p .residents ∙ sym (q .residents);
+        transfers-same = ap (λ (x : Outcome). secondTransfers (x .events)) (join-alike (items f) up ps c j o within K (k .filters) (take resident frames));
+      }
 
 -- Where the recording is a file of kind 0, no premise on the joins is needed.
 pub like-the-whole-file : LikeTheWholeFile
 like-the-whole-file f a z ps c j o =
     let w = within f a z ps c j o in (
       w,
-      λ K cache resident k events. (
-        λ room. faithful (items f) (up f a z ps c j o) ps c j o w K cache resident k events room,
-        λ room. same-replay f a z ps c j o K cache resident k events room,
+      λ K frames resident k events. (
+        λ room. faithful (items f) (up f a z ps c j o) ps c j o w K frames resident k events room,
+        λ room. same-replay f a z ps c j o K frames resident k events room,
       ),
     )

@@ -1,23 +1,27 @@
 -- The files of a recording, and the files that they are reduced to. Assumes nothing.
 use Prim.Native.Nat.{ℕ, _≤_}
 use mathlib.Core.Path.{_≡_, refl, sym}
-use mathlib.Core.List.{List, [], _∷_, map}
+use mathlib.Core.Bool.{Bool, true, false}
+use mathlib.Core.List.{List, [], _∷_, _++_, map}
 use native.Mathlib.Omega.{arith}
 use lib.ListN.{length, length-append}
-use Rattle.pages.specs.Rows.{All, flat}
+use Rattle.pages.specs.Rows.{All, consIf, flat}
+use Rattle.pages.specs.Pages.{add}
 use Rattle.trace.specs.Layout.{header, items}
 use Rattle.trace.specs.Rules.{Rising}
 use Rattle.trace.specs.Promises.{IsFile}
+use Rattle.trace.specs.declared.Item.{Item}
 use Rattle.trace.specs.declared.Verdict.the-variants.{Sound}
 use Rattle.trace.proofs.Accepted.{accepted-header, accepted-count, accepted-facts}
+use Rattle.trace.proofs.Append.{rising-earlier}
 use Rattle.trace.proofs.Checking.{accepted-verdict}
 use Rattle.trace.proofs.Octets.{octets-file}
-use Rattle.slim.specs.Keep.{reduce}
+use Rattle.slim.specs.Epochs.{epochs}
+use Rattle.slim.specs.Keep.{keeps, settle, owe, marked, reduce}
 use Rattle.slim.specs.Reduce.{modeOf, keptOf, reducedHeader, reducedFile, reduceVerdict}
-use Rattle.slim.specs.English.{Sub}
-use Rattle.slim.specs.English.Sub.{none}
-use Rattle.slim.proofs.Kept.{sub-append, kept-in-order}
-use Rattle.slim.proofs.Order.{sub-rising, reduce-length}
+use Rattle.slim.specs.declared.Mode.{Mode}
+use Rattle.slim.proofs.Greedy.{epochs-trace}
+use Rattle.slim.proofs.Order.{reduce-length}
 use Rattle.slim.proofs.Reducing.{reducible-sound, reduce-written, reduce-file}
 use Rattle.slim.proofs.Accepted.{writes-reduced}
 use Rattle.join.specs.Trees.{itemsOfAll, largest, total, headerOfAll}
@@ -79,15 +83,52 @@ unfolding flat part recorded
 portion-items [] = refl
 portion-items (p ∷ ps) = rw (portion-items ps)
 
--- Parts reduced are the parts without some of their items,
-reduced-in-order : (ps : List Part) → Sub (reduced ps) (recorded ps)
-unfolding flat reduced recorded
-reduced-in-order [] = none
-reduced-in-order (p ∷ ps) = sub-append (kept-in-order (p .mode) (p .size) (p .items)) (reduced-in-order ps)
+-- ---- times
 
--- so their times do not fall.
+-- The row u is t without some of its items, whatever the marks of the others.
+data Left : List Item → List Item → Type 0 where
+  none : Left [] []
+  keep : {i j : Item} {u t : List Item} → j .time ≡ i .time → Left u t → Left (j ∷ u) (i ∷ t)
+  skip : {i : Item} {u t : List Item} → Left u t → Left u (i ∷ t)
+
+left-append : {u t v w : List Item} → Left u t → Left v w → Left (u ++ v) (t ++ w)
+left-append none q = q
+left-append (keep e p) q = keep e (left-append p q)
+left-append (skip p) q = skip (left-append p q)
+
+left-if : (b : Bool) (i j : Item) {u t : List Item} → j .time ≡ i .time → Left u t → Left (consIf b j u) (i ∷ t)
+left-if true i j e p = keep e p
+left-if false i j e p = skip p
+
+-- An epoch is left so,
+marked-left : (m : Mode) (seen owed : List ℕ) (e : List Item) → Left (marked m seen owed e) e
+unfolding marked settle
+marked-left m seen owed [] = none
+marked-left m seen owed (i ∷ e) = left-if (keeps m seen i e) i (settle owed i e) refl (marked-left m (add (i .page) seen) (owe (keeps m seen i e) i owed) e)
+
+epochs-left : (m : Mode) (es : List (List Item)) → Left (flat (map (marked m [] []) es)) (flat es)
+unfolding flat
+epochs-left m [] = none
+epochs-left m (e ∷ es) = left-append (marked-left m [] [] e) (epochs-left m es)
+
+reduce-left : (m : Mode) (B : ℕ) (t : List Item) → Left (reduce m B t) t
+unfolding reduce
+reduce-left m B t = rw (epochs-trace B t) at (epochs-left m (epochs B t))
+
+-- and so are parts, one after the other;
+parts-left : (ps : List Part) → Left (reduced ps) (recorded ps)
+unfolding flat reduced recorded
+parts-left [] = none
+parts-left (p ∷ ps) = left-append (reduce-left (p .mode) (p .size) (p .items)) (parts-left ps)
+
+left-rising : {u t : List Item} → Left u t → (from : ℕ) → Rising from t → Rising from u
+left-rising none from r = tt
+left-rising (keep {i} e p) from r = rw e (r .0, left-rising p (i .time) (r .1))
+left-rising (skip {t = t} p) from r = left-rising p from (rising-earlier (r .0) t (r .1))
+
+-- so the times of parts reduced do not fall.
 pub reduced-rising : (ps : List Part) → Rising 0 (recorded ps) → Rising 0 (reduced ps)
-reduced-rising ps r = sub-rising (reduced-in-order ps) 0 r
+reduced-rising ps r = left-rising (parts-left ps) 0 r
 
 -- ---- filters
 
