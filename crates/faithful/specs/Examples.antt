@@ -1,32 +1,36 @@
--- The paper's worked examples, one list and one theorem, by computation. Assumes nothing.
+-- The paper's worked examples, one list and one theorem, and some with writes, by computation. Assumes nothing.
 use Prim.Native.Nat.{ℕ, _*_}
 use mathlib.Core.Path.{_≡_, refl}
+use mathlib.Core.Bool.{true, false}
 use mathlib.Core.List.{List, [], _∷_, map}
 use lib.ListN.{length, take, drop, replicate}
 use Rattle.pages.specs.Rows.{flat, over}
-use Rattle.pages.specs.Pages.{has, add, remove}
+use Rattle.pages.specs.Pages.{has, add}
+use Rattle.frames.specs.Frames.{framed, blank, dirty, taken}
+use Rattle.frames.specs.Frames.{pagesOf as framePages}
+use Rattle.frames.specs.declared.Frame.{Frame}
 use Rattle.trace.specs.Bytes.{number, numberAt, bytes}
-use Rattle.trace.specs.Layout.{field, encodeHeader, encodeItem, encodeItems, encode, header, item, itemAt, itemsOf, items}
+use Rattle.trace.specs.Layout.{tagOf, field, encodeHeader, encodeItem, encodeItems, encode, header, item, itemAt, itemsOf, items}
 use Rattle.trace.specs.Rules.{allowed}
 use Rattle.trace.specs.Verdict.{first}
 use Rattle.trace.specs.Verdict as verdicts
-use Rattle.trace.specs.Check.{isField, itemsVerdict, verdict}
-use Rattle.trace.specs.Examples.{_at_, T, fileT}
+use Rattle.trace.specs.Check.{isField, isItem, itemsVerdict, verdict}
+use Rattle.trace.specs.Examples.{_at_, _writes_, T, fileT}
 use Rattle.trace.specs.declared.Item.{Item}
 use Rattle.slim.specs.Epochs.{pages, cut, epochs}
-use Rattle.slim.specs.Keep.{isFirst, isLast, phase, keeps, kept, reduce}
+use Rattle.slim.specs.Keep.{isFirst, isLast, phase, keeps, settle, marked, reduce}
 use Rattle.slim.specs.Reduce.{isMode, modeOf, keptOf, reducedHeader, reducedFile, falls, reduceVerdict, reduceAnswer}
 use Rattle.slim.specs.declared.Reduced.{Reduced}
 use Rattle.slim.specs.declared.Reduced.the-variants as reductions
 use Rattle.join.specs.Join.{joinedKind, joinedHeader, joinedFile, meetsFalling, tooLarge, judged, joinAnswer}
 use Rattle.join.specs.declared.Joined.{Joined}
 use Rattle.join.specs.declared.Joined.the-variants as joins
-use Rattle.lru.specs.Lru.{Event, hit, fetch, step, _then_, replay, word, words}
-use Rattle.lru.specs.Tally.{isFetch, isEviction, tallied, tally, perMillion}
-use Rattle.replays.specs.Replay.{twice, badStart, replayVerdict, replayOf, summaryOf, replayAnswer, cacheAfter, eventsAfter}
+use Rattle.lru.specs.Lru.{Event, hit, fetch, step, _then_, replay, word, cost, words}
+use Rattle.lru.specs.Tally.{oneOf, isFetch, isEviction, tallied, tally, perMillion}
+use Rattle.replays.specs.Replay.{twice, badStart, replayVerdict, replayOf, summaryOf, replayAnswer, framesAfter, eventsAfter}
 use Rattle.replays.specs.declared.Replayed.{Replayed}
 use Rattle.replays.specs.declared.Replayed.the-variants as replays
-use Rattle.faithful.specs.Corollaries.{wholeFile as file}
+use Rattle.faithful.specs.Corollaries.{wholeFile as file, secondTransfers, toldTransfers}
 
 -- One example of the paper: what the definitions compute, and what the paper says.
 pub record Example : Type 0 where
@@ -103,22 +107,22 @@ told a =
       | replays.Refused r n ↦ r .number ∷ r .trace ∷ r .item ∷ n ∷ []
     ]
 
--- An empty cache with room for K pages, and 36 places for events, three for each item of T.
-abbrev pub empty : ℕ → List ℕ
-empty K = replicate K 0
+-- An empty cache with room for K pages, and 48 places for events, four for each item of T.
+abbrev pub empty : ℕ → List Frame
+empty K = replicate K blank
 
 abbrev pub places : List ℕ
-places = replicate 36 0
+places = replicate 48 0
 
--- From the empty cache: the answer, the three numbers that each fetch writes, and the cache afterwards.
+-- From the empty cache: the answer, the four numbers that each fetch writes, and the pages in the cache afterwards.
 abbrev pub answer : ℕ → List ℕ → List ℕ
 answer K f = told (replayAnswer f K (empty K) 0 (length places))
 
 abbrev pub fetches : ℕ → List ℕ → List ℕ
-fetches K f = take (3 * (summaryOf f K (empty K) 0) .fetches) (eventsAfter f K (empty K) 0 places)
+fetches K f = take (4 * (summaryOf f K (empty K) 0) .fetches) (eventsAfter f K (empty K) 0 places)
 
 abbrev pub leaves : ℕ → List ℕ → List ℕ
-leaves K f = cacheAfter f K (empty K) 0 (length places)
+leaves K f = framePages (framesAfter f K (empty K) 0 (length places))
 
 -- When a cache of K pages that starts empty would fetch, were the replay of the file not refused.
 abbrev pub fetchedAt : ℕ → List ℕ → List ℕ
@@ -140,16 +144,16 @@ examples =
     ∷ (leaves 4 (demand 4 fileT) says 1 ∷ 3 ∷ 4 ∷ 2 ∷ [])
     -- "K = 2 on the B = 2 demand file: the five fetch lines above, per million 625000."
     ∷ (fetches 2 (demand 2 fileT) says
-    10 ∷ 1 ∷ 18446744073709551615 ∷ 40 ∷ 2 ∷ 18446744073709551615 ∷ 60 ∷ 3 ∷ 2 ∷ 80 ∷ 4 ∷ 1 ∷ 110 ∷ 1 ∷ 4 ∷ [])
+    10 ∷ 1 ∷ 18446744073709551615 ∷ 0 ∷ 40 ∷ 2 ∷ 18446744073709551615 ∷ 0 ∷ 60 ∷ 3 ∷ 2 ∷ 1 ∷ 80 ∷ 4 ∷ 1 ∷ 1 ∷ 110 ∷ 1 ∷ 4 ∷ 1 ∷ [])
     ∷ (answer 2 (demand 2 fileT) says 0 ∷ 8 ∷ 5 ∷ 3 ∷ 2 ∷ 625000 ∷ [])
     -- Replay of T as a whole file with cache size 2: the lines that the paper prints whole.
     ∷ (fetches 2 fileT says
-    10 ∷ 1 ∷ 18446744073709551615 ∷ 40 ∷ 2 ∷ 18446744073709551615 ∷ 60 ∷ 3 ∷ 2 ∷ 80 ∷ 4 ∷ 1 ∷ 110 ∷ 1 ∷ 4 ∷ [])
+    10 ∷ 1 ∷ 18446744073709551615 ∷ 0 ∷ 40 ∷ 2 ∷ 18446744073709551615 ∷ 0 ∷ 60 ∷ 3 ∷ 2 ∷ 1 ∷ 80 ∷ 4 ∷ 1 ∷ 1 ∷ 110 ∷ 1 ∷ 4 ∷ 1 ∷ [])
     ∷ (answer 2 fileT says 0 ∷ 12 ∷ 5 ∷ 3 ∷ 2 ∷ 416666 ∷ [])
     ∷ (leaves 2 fileT says 1 ∷ 3 ∷ [])
     -- "K = 3 on T: fetches at 10, 40, 60, 80; only page 2 evicted, at 80."
     ∷ (fetches 3 fileT says
-    10 ∷ 1 ∷ 18446744073709551615 ∷ 40 ∷ 2 ∷ 18446744073709551615 ∷ 60 ∷ 3 ∷ 18446744073709551615 ∷ 80 ∷ 4 ∷ 2 ∷ [])
+    10 ∷ 1 ∷ 18446744073709551615 ∷ 0 ∷ 40 ∷ 2 ∷ 18446744073709551615 ∷ 0 ∷ 60 ∷ 3 ∷ 18446744073709551615 ∷ 0 ∷ 80 ∷ 4 ∷ 2 ∷ 1 ∷ [])
     -- "K = 1 on T: 7 fetches, 6 evictions. On the B = 2 demand file: refused 9. (Page 3's fetch at 90 would have moved to 100.)"
     ∷ (take 4 (answer 1 fileT) says 0 ∷ 12 ∷ 7 ∷ 6 ∷ [])
     ∷ (answer 1 (demand 2 fileT) says 9 ∷ 1 ∷ 0 ∷ 0 ∷ [])
@@ -160,7 +164,7 @@ examples =
     ∷ (reduction (reduceAnswer after 2 2 (length after)) says 0 ∷ 2 ∷ 2 ∷ 5 ∷ 5 ∷ [])
     ∷ (joining (joinAnswer (demand 2 before) (demand 2 after) (length rejoined)) says 0 ∷ 2 ∷ 2 ∷ 12 ∷ 10 ∷ [])
     ∷ (fetches 2 rejoined says
-    10 ∷ 1 ∷ 18446744073709551615 ∷ 40 ∷ 2 ∷ 18446744073709551615 ∷ 60 ∷ 3 ∷ 2 ∷ 80 ∷ 4 ∷ 1 ∷ 110 ∷ 1 ∷ 4 ∷ [])
+    10 ∷ 1 ∷ 18446744073709551615 ∷ 0 ∷ 40 ∷ 2 ∷ 18446744073709551615 ∷ 0 ∷ 60 ∷ 3 ∷ 2 ∷ 1 ∷ 80 ∷ 4 ∷ 1 ∷ 1 ∷ 110 ∷ 1 ∷ 4 ∷ 1 ∷ [])
     ∷ (answer 2 rejoined says 0 ∷ 10 ∷ 5 ∷ 3 ∷ 2 ∷ 500000 ∷ [])
     -- "Page 7 five times, B = 1: first and last kept. One item: kept once."
     ∷ (times (demand 1 sevens) says 1 ∷ 5 ∷ [])
@@ -179,14 +183,70 @@ examples =
     ∷ (size (fastslim 2 (file [])) says 23 ∷ [])
     ∷ (answer 2 (file []) says 0 ∷ 0 ∷ 0 ∷ 0 ∷ 0 ∷ 0 ∷ [])
     ∷ (eventsAfter (file []) 2 (empty 2) 0 (5 ∷ 6 ∷ []) says 5 ∷ 6 ∷ [])
-    ∷ (cacheAfter (file []) 2 (7 ∷ 8 ∷ []) 0 0 says 7 ∷ 8 ∷ [])
+    ∷ (framePages (framesAfter (file []) 2 (framed 7 false ∷ framed 8 true ∷ []) 0 0) says 7 ∷ 8 ∷ [])
     ∷ []
 
 -- Every example holds.
 pub examples-hold : map (λ (e : Example). e .found) examples ≡ map (λ (e : Example). e .paper) examples
-unfolding reduceAnswer reduceVerdict reducedFile reducedHeader keptOf modeOf isMode falls reduce epochs cut kept keeps phase isFirst isLast pages
+unfolding reduceAnswer reduceVerdict reducedFile reducedHeader keptOf modeOf isMode falls reduce epochs cut marked settle keeps phase isFirst isLast pages
     joinAnswer judged meetsFalling tooLarge joinedFile joinedHeader joinedKind
-    replayAnswer replayVerdict summaryOf replayOf cacheAfter eventsAfter badStart twice replay _then_ step hit fetch words word tally tallied isFetch isEviction perMillion
-    has add remove flat over
-    encode encodeHeader encodeItems encodeItem field bytes verdict first verdicts._then_ itemsVerdict isField allowed header items itemsOf itemAt item numberAt number
+    replayAnswer replayVerdict summaryOf replayOf framesAfter eventsAfter badStart twice replay _then_ step hit fetch words word cost tally tallied isFetch isEviction perMillion
+    has add dirty taken flat over
+    encode encodeHeader encodeItems encodeItem tagOf field bytes verdict first verdicts._then_ itemsVerdict isItem isField allowed header items itemsOf itemAt item numberAt number
 examples-hold = refl
+
+-- ---- writes
+
+-- A recording with writes at times 20, 60 and 100.
+abbrev pub W : List Item
+W = 1 at 10 ∷ 1 writes 20 ∷ 1 at 30 ∷ 2 at 40 ∷ 3 at 50 ∷ 4 writes 60 ∷ 4 at 70 ∷ 3 at 80 ∷ 1 at 90 ∷ 1 writes 100 ∷ 1 at 110 ∷ []
+
+-- It is cut after time 40, and so between the write of page 1 at 20 and its eviction at 50; reduced by demand and by FastSlim, with B = 2, and joined.
+abbrev pub cutW : List ℕ
+cutW = joinedFile (demand 2 (file (take 4 W))) (fastslim 2 (file (drop 4 W)))
+
+-- For each item of a file, 1 if it is a write and else 0.
+abbrev pub writesOf : List ℕ → List ℕ
+writesOf f = map (λ (i : Item). oneOf (i .written)) (items f)
+
+-- Frames as numbers: each page, and 1 if it was written, else 0.
+abbrev pub shown : List Frame → List ℕ
+shown fs = flat (map (λ (f : Frame). f .page ∷ oneOf (f .written) ∷ []) fs)
+
+-- A cache of three pages that starts with page 3, which was written, and page 7, which was not.
+abbrev pub started : List Frame
+started = framed 3 true ∷ framed 7 false ∷ blank ∷ []
+
+-- The second transfers of a replay from the empty cache with K pages: as LRU has them, and as its events buffer tells them.
+abbrev pub transfers : ℕ → List ℕ → List ℕ
+transfers K f = secondTransfers ((replayOf f K (empty K) 0) .events) ∷ toldTransfers ((summaryOf f K (empty K) 0) .fetches) (eventsAfter f K (empty K) 0 places) ∷ []
+
+-- What is computed, and what the words of the change request come to.
+abbrev pub written : List Example
+written =
+    -- "The last kept item of a page in an epoch becomes a write if any dropped item of that page in that epoch was one": those at 30 and 110 do, and that at 60 is one.
+    (times cutW says 10 ∷ 30 ∷ 40 ∷ 50 ∷ 60 ∷ 70 ∷ 80 ∷ 90 ∷ 110 ∷ [])
+    ∷ (writesOf cutW says 0 ∷ 1 ∷ 0 ∷ 0 ∷ 1 ∷ 0 ∷ 0 ∷ 0 ∷ 1 ∷ [])
+    -- Page 1 is written in the first file and evicted in the second: of the recording and of the join, the fetch at 50 has the 2. So has that at 90, which evicts page 4.
+    ∷ (fetches 2 (file W) says
+    10 ∷ 1 ∷ 18446744073709551615 ∷ 0 ∷ 40 ∷ 2 ∷ 18446744073709551615 ∷ 0 ∷ 50 ∷ 3 ∷ 1 ∷ 2 ∷ 60 ∷ 4 ∷ 2 ∷ 1 ∷ 90 ∷ 1 ∷ 4 ∷ 2 ∷ [])
+    ∷ (fetches 2 cutW says
+    10 ∷ 1 ∷ 18446744073709551615 ∷ 0 ∷ 40 ∷ 2 ∷ 18446744073709551615 ∷ 0 ∷ 50 ∷ 3 ∷ 1 ∷ 2 ∷ 60 ∷ 4 ∷ 2 ∷ 1 ∷ 90 ∷ 1 ∷ 4 ∷ 2 ∷ [])
+    -- "The written marks at the end": page 1 was written since its fetch, and page 3 was not.
+    ∷ (shown (framesAfter (file W) 2 (empty 2) 0 48) says 1 ∷ 1 ∷ 3 ∷ 0 ∷ [])
+    ∷ (shown (framesAfter cutW 2 (empty 2) 0 48) says 1 ∷ 1 ∷ 3 ∷ 0 ∷ [])
+    -- Two fetches cost a second transfer.
+    ∷ (transfers 2 (file W) says 2 ∷ 2 ∷ [])
+    ∷ (transfers 2 cutW says 2 ∷ 2 ∷ [])
+    -- "From any starting marks": page 3 is only read, and is written at the end as it was at the start.
+    ∷ (shown (framesAfter (file W) 3 started 2 48) says 1 ∷ 1 ∷ 3 ∷ 1 ∷ 4 ∷ 1 ∷ [])
+    ∷ (shown (framesAfter cutW 3 started 2 48) says 1 ∷ 1 ∷ 3 ∷ 1 ∷ 4 ∷ 1 ∷ [])
+    ∷ []
+
+-- Every one of them holds.
+pub written-hold : map (λ (e : Example). e .found) written ≡ map (λ (e : Example). e .paper) written
+unfolding reducedFile reducedHeader keptOf modeOf reduce epochs cut marked settle keeps phase isFirst isLast pages joinedFile joinedHeader joinedKind
+    replayVerdict summaryOf replayOf framesAfter eventsAfter badStart twice replay _then_ step hit fetch words word cost tally tallied isFetch isEviction perMillion
+    secondTransfers toldTransfers has add dirty taken flat over
+    encode encodeHeader encodeItems encodeItem tagOf field bytes verdict first verdicts._then_ itemsVerdict isItem isField allowed header items itemsOf itemAt item numberAt number
+written-hold = refl
