@@ -6,11 +6,11 @@ use mathlib.Core.List.{List, [], _∷_, _++_, map}
 use lib.ListN.{length, take, set, replicate}
 use Rattle.pages.specs.Rows.{over}
 use Rattle.trace.specs.Bytes.{number, numberAt, bytes}
-use Rattle.trace.specs.Layout.{field, encodeHeader, encodeItem, encodeItems, encode, header, item, itemAt, itemsOf, items}
+use Rattle.trace.specs.Layout.{tagOf, field, encodeHeader, encodeItem, encodeItems, encode, header, item, itemAt, itemsOf, items}
 use Rattle.trace.specs.Rules.{allowed}
 use Rattle.trace.specs.Refusals.{refused, ofSecond}
 use Rattle.trace.specs.Verdict.{first, _then_}
-use Rattle.trace.specs.Check.{isField, itemsVerdict, verdict}
+use Rattle.trace.specs.Check.{isField, isItem, itemsVerdict, verdict}
 use Rattle.trace.specs.Examples.{_at_, whole}
 use Rattle.trace.specs.declared.Header.{Header}
 use Rattle.trace.specs.declared.Item.{Item}
@@ -60,12 +60,12 @@ headers : (
     ∷ Written (heading 0 0 2 2)
     ∷ []
 unfolding joinAnswer judged meetsFalling tooLarge joinedHeader joinedKind
-    encode encodeHeader encodeItems encodeItem field bytes verdict first _then_ itemsVerdict isField allowed header itemAt item numberAt number
+    encode encodeHeader encodeItems encodeItem tagOf field bytes verdict first _then_ itemsVerdict isField isItem allowed header itemAt item numberAt number
 headers = refl
 
 -- "Items of the first, then of the second."
 in-order : items (joinedFile earlier later) ≡ 1 at 10 ∷ 2 at 20 ∷ 3 at 20 ∷ []
-unfolding joinedFile joinedHeader joinedKind encode encodeHeader encodeItems encodeItem field bytes header items itemsOf item numberAt number
+unfolding joinedFile joinedHeader joinedKind encode encodeHeader encodeItems encodeItem tagOf field bytes header items itemsOf item numberAt number
 in-order = refl
 
 -- ---- the output
@@ -73,19 +73,19 @@ in-order = refl
 -- The joined file, and beyond it what there was.
 output : joinOut earlier later (replicate 83 7) ≡ together ++ (7 ∷ 7 ∷ 7 ∷ [])
 unfolding joinOut judged meetsFalling tooLarge joinedFile joinedHeader joinedKind over
-    encode encodeHeader encodeItems encodeItem field bytes verdict first _then_ itemsVerdict isField allowed header items itemsOf itemAt item numberAt number
+    encode encodeHeader encodeItems encodeItem tagOf field bytes verdict first _then_ itemsVerdict isField isItem allowed header items itemsOf itemAt item numberAt number
 output = refl
 
 -- 11, "shorter than the joined file": 80 bytes are room, 79 are not.
 room : (joinAnswer earlier later 80 ∷ joinAnswer earlier later 79 ∷ []) ≡ Written (heading 2 8 14 3) ∷ Refused (refused 11 0) ∷ []
 unfolding joinAnswer judged meetsFalling tooLarge joinedHeader joinedKind
-    encode encodeHeader encodeItems encodeItem field bytes verdict first _then_ itemsVerdict isField allowed header itemAt item numberAt number
+    encode encodeHeader encodeItems encodeItem tagOf field bytes verdict first _then_ itemsVerdict isField isItem allowed header itemAt item numberAt number
 room = refl
 
 -- A refused join leaves the output as it was: for want of room, and where the second file is no file.
 untouched : (joinOut earlier later (replicate 79 7) ∷ joinOut earlier (take 22 later) (replicate 83 7) ∷ []) ≡ replicate 79 7 ∷ replicate 83 7 ∷ []
 unfolding joinOut judged meetsFalling tooLarge joinedHeader joinedKind
-    encode encodeHeader encodeItems encodeItem field bytes verdict first _then_ itemsVerdict isField allowed header itemAt item numberAt number
+    encode encodeHeader encodeItems encodeItem tagOf field bytes verdict first _then_ itemsVerdict isField isItem allowed header itemAt item numberAt number
 untouched = refl
 
 -- ---- 12
@@ -106,7 +106,7 @@ falling : (
     ∷ Written (heading 0 0 0 0)
     ∷ []
 unfolding joinAnswer judged meetsFalling tooLarge joinedHeader joinedKind
-    encode encodeHeader encodeItems encodeItem field bytes verdict first _then_ itemsVerdict isField allowed header itemAt item numberAt number
+    encode encodeHeader encodeItems encodeItem tagOf field bytes verdict first _then_ itemsVerdict isField isItem allowed header itemAt item numberAt number
 falling = refl
 
 -- ---- 13
@@ -117,7 +117,7 @@ references : map (λ (n : ℕ). joinAnswer (file 1 8 4294967290 (1 at 10 ∷ [])
     ∷ Refused (refused 13 0)
     ∷ []
 unfolding joinAnswer judged meetsFalling tooLarge joinedHeader joinedKind
-    encode encodeHeader encodeItems encodeItem field bytes verdict first _then_ itemsVerdict isField allowed header itemAt item numberAt number
+    encode encodeHeader encodeItems encodeItem tagOf field bytes verdict first _then_ itemsVerdict isField isItem allowed header itemAt item numberAt number
 references = refl
 
 -- "Items over 1,000,000": two files of together so many items are too long to be computed here (the join of such files is tried in
@@ -139,7 +139,7 @@ second : map (λ (g : List ℕ). joinAnswer earlier g 0) (
     take 22 later
     ∷ set later 3 3
     ∷ (later ++ (0 ∷ []))
-    ∷ set (file 0 0 2 (3 at 5 ∷ 4 at 6 ∷ [])) 42 6
+    ∷ set (file 0 0 2 (3 at 5 ∷ 4 at 6 ∷ [])) 42 7
     ∷ file 0 0 2 (3 at 5 ∷ 18446744073709551615 at 6 ∷ [])
     ∷ file 0 0 2 (3 at 5 ∷ 4 at 4 ∷ [])
     ∷ []
@@ -152,13 +152,13 @@ second : map (λ (g : List ℕ). joinAnswer earlier g 0) (
     ∷ Refused (record { number = 6; trace = 2; item = 1 })
     ∷ []
 unfolding joinAnswer judged
-    encode encodeHeader encodeItems encodeItem field bytes verdict first _then_ itemsVerdict isField allowed header item numberAt number
+    encode encodeHeader encodeItems encodeItem tagOf field bytes verdict first _then_ itemsVerdict isField isItem allowed header item numberAt number
 second = refl
 
 -- The first file's refusals have trace 1, and come before the second's, though that has the lower number here.
 first-file : map (λ (f : List ℕ). joinAnswer f (take 22 later) 0) (
     set later 3 3
-    ∷ set (file 0 0 2 (3 at 5 ∷ 4 at 6 ∷ [])) 42 6
+    ∷ set (file 0 0 2 (3 at 5 ∷ 4 at 6 ∷ [])) 42 7
     ∷ file 0 0 2 (3 at 5 ∷ 18446744073709551615 at 6 ∷ [])
     ∷ file 0 0 2 (3 at 5 ∷ 4 at 4 ∷ [])
     ∷ []
@@ -169,7 +169,7 @@ first-file : map (λ (f : List ℕ). joinAnswer f (take 22 later) 0) (
     ∷ Refused (record { number = 6; trace = 1; item = 1 })
     ∷ []
 unfolding joinAnswer judged
-    encode encodeHeader encodeItems encodeItem field bytes verdict first _then_ itemsVerdict isField allowed header item numberAt number
+    encode encodeHeader encodeItems encodeItem tagOf field bytes verdict first _then_ itemsVerdict isField isItem allowed header item numberAt number
 first-file = refl
 
 -- ---- "then 12, 13, 11"
@@ -186,5 +186,5 @@ order : (
     ∷ Refused (refused 11 0)
     ∷ []
 unfolding joinAnswer judged meetsFalling tooLarge joinedHeader joinedKind
-    encode encodeHeader encodeItems encodeItem field bytes verdict first _then_ itemsVerdict isField allowed header itemAt item numberAt number
+    encode encodeHeader encodeItems encodeItem tagOf field bytes verdict first _then_ itemsVerdict isField isItem allowed header itemAt item numberAt number
 order = refl
