@@ -1,7 +1,7 @@
 //! The bytes of a trace file: fields of one byte tag, two bytes length and the
 //! value, all numbers low byte first.
 
-use crate::Header;
+use crate::{Header, Item};
 
 pub const HEADER_BYTES: usize = 23;
 pub const ITEM_BYTES: usize = 19;
@@ -18,18 +18,13 @@ pub const FILTER: Field = Field::new(4, 2, 2);
 pub const REFERENCES: Field = Field::new(9, 3, 4);
 pub const ITEMS: Field = Field::new(16, 4, 4);
 
-pub const ITEM_TAG: u8 = 5;
+/// The two tags of an item; its layout is the same with either.
+pub const READ_TAG: u8 = 5;
+pub const WRITE_TAG: u8 = 6;
 pub const ITEM_LENGTH: u16 = 16;
 
 /// Tag and length come before each value.
 const BEFORE_VALUE: usize = 3;
-
-/// One reference: a page and the time it was made.
-#[derive(Clone, Copy, Debug, PartialEq, Eq)]
-pub struct Item {
-    pub page: u64,
-    pub time: u64,
-}
 
 impl Field {
     const fn new(at: usize, tag: u8, length: u16) -> Self {
@@ -75,7 +70,7 @@ pub fn put_header(file: &mut [u8], header: &Header) {
 /// The bytes of one item.
 pub fn item_bytes(item: Item) -> [u8; ITEM_BYTES] {
     let mut bytes = [0; ITEM_BYTES];
-    bytes[0] = ITEM_TAG;
+    bytes[0] = if item.written { WRITE_TAG } else { READ_TAG };
     bytes[1..3].copy_from_slice(&ITEM_LENGTH.to_le_bytes());
     bytes[3..11].copy_from_slice(&item.page.to_le_bytes());
     bytes[11..].copy_from_slice(&item.time.to_le_bytes());
@@ -119,10 +114,7 @@ mod tests {
             references: 0x0304_0506,
             items: 1,
         };
-        let item = Item {
-            page: 0x1112_1314_1516_1718,
-            time: 0x2122_2324_2526_2728,
-        };
+        let item = Item::read(0x1112_1314_1516_1718, 0x2122_2324_2526_2728);
         #[rustfmt::skip]
         let expected = [
             1, 1, 0, 2,
@@ -137,6 +129,13 @@ mod tests {
         assert_eq!(file, expected);
         assert_eq!(FILTER.value(&file), 0x0102);
         assert_eq!(REFERENCES.value(&file), 0x0304_0506);
+    }
+
+    #[test]
+    fn a_write_differs_in_its_tag_alone() {
+        let [read, write] = [Item::read(9, 7), Item::write(9, 7)].map(item_bytes);
+        assert_eq!((read[0], write[0]), (5, 6));
+        assert_eq!(read[1..], write[1..]);
     }
 
     #[test]

@@ -3,10 +3,15 @@
 //! behind which implementations can be exchanged.
 
 mod answers;
+pub mod event;
+mod frame;
+mod item;
 pub mod layout;
 mod library;
 pub mod limits;
 
 pub use answers::{Header, Refusal, Summary};
-pub use layout::Item;
+pub use event::NUMBERS_PER_EVENT;
+pub use frame::Frame;
+pub use item::Item;
 pub use library::Library;

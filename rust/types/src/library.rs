@@ -1,7 +1,7 @@
 //! The four functions as one trait, so that a test, a benchmark or a program
 //! can take either implementation.
 
-use crate::{Header, Refusal, Summary};
+use crate::{Frame, Header, Refusal, Summary};
 
 /// An implementation of the trace library.
 ///
@@ -25,13 +25,13 @@ pub trait Library {
     fn join(&self, first: &[u8], second: &[u8], out: &mut [u8]) -> Result<Header, Refusal>;
 
     /// Replays a trace file with an LRU cache of `size` pages that starts as
-    /// the first `resident` places of `cache`. Each fetch writes time, page
-    /// and evicted page to `events`. A refusal gives the resident count back.
+    /// the first `resident` frames of `cache`. Each fetch writes the numbers of
+    /// an event to `events`. A refusal gives the resident count back.
     fn replay(
         &self,
         file: &[u8],
         size: u64,
-        cache: &mut [u64],
+        cache: &mut [Frame],
         resident: usize,
         events: &mut [u64],
     ) -> Result<Summary, (Refusal, u64)>;
