@@ -1,7 +1,8 @@
 //! The checker: refusals 1 to 6, in that order.
 
 use types::layout::{
-    FILTER, HEADER_BYTES, ITEM_BYTES, ITEM_LENGTH, ITEM_TAG, ITEMS, KIND, REFERENCES, file_bytes,
+    FILTER, HEADER_BYTES, ITEM_BYTES, ITEM_LENGTH, ITEMS, KIND, READ_TAG, REFERENCES, WRITE_TAG,
+    file_bytes,
 };
 use types::limits::{LARGEST_FILTER, MOST_ITEMS, RESERVED_PAGE};
 use types::{Header, Item, Refusal};
@@ -63,7 +64,7 @@ fn check_items(file: &[u8]) -> Result<(), Refusal> {
     let mut before = 0;
     for (number, bytes) in item_rows(file).iter().enumerate() {
         let item = read_item(bytes);
-        let fault = if bytes[0] != ITEM_TAG || bytes[1..3] != ITEM_LENGTH.to_le_bytes() {
+        let fault = if !is_marked(bytes) {
             4
         } else if item.page == RESERVED_PAGE {
             5
@@ -78,10 +79,16 @@ fn check_items(file: &[u8]) -> Result<(), Refusal> {
     Ok(())
 }
 
+/// Whether the item's tag is one of the two, and its length as it should be.
+fn is_marked(bytes: &[u8; ITEM_BYTES]) -> bool {
+    [READ_TAG, WRITE_TAG].contains(&bytes[0]) && bytes[1..3] == ITEM_LENGTH.to_le_bytes()
+}
+
 fn read_item(bytes: &[u8; ITEM_BYTES]) -> Item {
     let number = |at: usize| u64::from_le_bytes(bytes[at..at + 8].try_into().expect("eight bytes"));
     Item {
         page: number(3),
         time: number(11),
+        written: bytes[0] == WRITE_TAG,
     }
 }

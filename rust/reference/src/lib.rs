@@ -14,7 +14,7 @@ pub use join::join;
 pub use reduce::reduce;
 pub use replay::{replay, replay_with};
 pub use run::{Run, run};
-pub use types::{Header, Library, Refusal, Summary};
+pub use types::{Frame, Header, Library, Refusal, Summary};
 
 /// The functions of this package behind the shared trait.
 #[derive(Clone, Copy, Debug)]
@@ -43,7 +43,7 @@ impl Library for Reference {
         &self,
         file: &[u8],
         size: u64,
-        cache: &mut [u64],
+        cache: &mut [Frame],
         resident: usize,
         events: &mut [u64],
     ) -> Result<Summary, (Refusal, u64)> {

@@ -3,9 +3,10 @@
 
 use crate::page_map::{PageMap, PageState};
 use std::hash::BuildHasher;
+use types::Frame;
 
 struct Place {
-    page: u64,
+    frame: Frame,
     newer: u32,
     older: u32,
 }
@@ -29,13 +30,13 @@ pub struct Lru<S = PageState> {
 /// What touching a page did.
 pub enum Touch {
     Hit,
-    Fetch { evicted: Option<u64> },
+    Fetch { evicted: Option<Frame> },
 }
 
 impl<S: BuildHasher + Default> Lru<S> {
     /// A list with room for `size` pages, holding these distinct ones, most
     /// recently used first.
-    pub fn start(size: usize, pages: &[u64]) -> Self {
+    pub fn start(size: usize, frames: &[Frame]) -> Self {
         let mut list = Lru {
             size,
             place_of: PageMap::with_capacity_and_hasher(SPARE * size, S::default()),
@@ -43,8 +44,8 @@ impl<S: BuildHasher + Default> Lru<S> {
             newest: NONE,
             oldest: NONE,
         };
-        for page in pages.iter().rev() {
-            list.touch(*page);
+        for frame in frames.iter().rev() {
+            list.touch(frame.page, frame.written);
         }
         list
     }
@@ -53,37 +54,39 @@ impl<S: BuildHasher + Default> Lru<S> {
         self.places.len()
     }
 
-    /// Moves the page to the front, bringing it in if it is not there.
-    pub fn touch(&mut self, page: u64) -> Touch {
+    /// Moves the page to the front, bringing it in if it is not there. What
+    /// was written stays so until it goes.
+    pub fn touch(&mut self, page: u64, written: bool) -> Touch {
         if let Some(&place) = self.place_of.get(&page) {
+            self.places[place as usize].frame.written |= written;
             if place != self.newest {
                 self.unlink(place);
                 self.link_as_newest(place);
             }
             return Touch::Hit;
         }
-        let (place, evicted) = self.free_place(page);
+        let (place, evicted) = self.free_place(Frame { page, written });
         self.place_of.insert(page, place);
         self.link_as_newest(place);
         Touch::Fetch { evicted }
     }
 
-    /// The resident pages, most recently used first.
-    pub fn pages(&self) -> impl Iterator<Item = u64> {
+    /// The resident frames, most recently used first.
+    pub fn frames(&self) -> impl Iterator<Item = Frame> {
         let mut next = self.newest;
         std::iter::from_fn(move || {
             let place = self.places.get(next as usize)?;
             next = place.older;
-            Some(place.page)
+            Some(place.frame)
         })
     }
 
     /// A place for a new page: the oldest page's if the list is full.
-    fn free_place(&mut self, page: u64) -> (u32, Option<u64>) {
+    fn free_place(&mut self, frame: Frame) -> (u32, Option<Frame>) {
         if self.places.len() < self.size {
             let place = self.places.len() as u32;
             self.places.push(Place {
-                page,
+                frame,
                 newer: NONE,
                 older: NONE,
             });
@@ -91,8 +94,8 @@ impl<S: BuildHasher + Default> Lru<S> {
         }
         let place = self.oldest;
         self.unlink(place);
-        let evicted = std::mem::replace(&mut self.places[place as usize].page, page);
-        self.place_of.remove(&evicted);
+        let evicted = std::mem::replace(&mut self.places[place as usize].frame, frame);
+        self.place_of.remove(&evicted.page);
         (place, Some(evicted))
     }
 

@@ -3,17 +3,17 @@
 use crate::check::{check, items};
 use crate::lru::Lru;
 use crate::page_map::{PageSet, PageState};
-use crate::run::{NUMBERS_PER_EVENT, step_over};
+use crate::run::step_over;
 use std::hash::BuildHasher;
 use types::limits::{LARGEST_CACHE, RESERVED_PAGE};
-use types::{Refusal, Summary};
+use types::{Frame, NUMBERS_PER_EVENT, Refusal, Summary};
 
 /// Replays a trace file with a cache of `size` pages that starts as the first
-/// `resident` places of `cache`.
+/// `resident` frames of `cache`.
 pub fn replay(
     file: &[u8],
     size: u64,
-    cache: &mut [u64],
+    cache: &mut [Frame],
     resident: usize,
     events: &mut [u64],
 ) -> Result<Summary, (Refusal, u64)> {
@@ -24,7 +24,7 @@ pub fn replay(
 pub fn replay_with<S: BuildHasher + Default>(
     file: &[u8],
     size: u64,
-    cache: &mut [u64],
+    cache: &mut [Frame],
     resident: usize,
     events: &mut [u64],
 ) -> Result<Summary, (Refusal, u64)> {
@@ -36,8 +36,8 @@ pub fn replay_with<S: BuildHasher + Default>(
         let place = places.next().expect("room for each fetch");
         place.copy_from_slice(&event);
     });
-    for (place, page) in cache.iter_mut().zip(list.pages()) {
-        *place = page;
+    for (place, frame) in cache.iter_mut().zip(list.frames()) {
+        *place = frame;
     }
     Ok(summary)
 }
@@ -46,7 +46,7 @@ pub fn replay_with<S: BuildHasher + Default>(
 fn admit<S: BuildHasher + Default>(
     file: &[u8],
     size: u64,
-    cache: &[u64],
+    cache: &[Frame],
     resident: usize,
     room: usize,
 ) -> Result<(), Refusal> {
@@ -66,13 +66,14 @@ fn admit<S: BuildHasher + Default>(
     Ok(())
 }
 
-/// Whether the first places of the lent buffer can be a starting cache.
-fn can_start<S: BuildHasher + Default>(size: usize, cache: &[u64], resident: usize) -> bool {
+/// Whether the first frames of the lent buffer can be a starting cache. Any
+/// marks can.
+fn can_start<S: BuildHasher + Default>(size: usize, cache: &[Frame], resident: usize) -> bool {
     if resident > size || cache.len() < size {
         return false;
     }
     let mut seen = PageSet::<S>::default();
     cache[..resident]
         .iter()
-        .all(|page| *page != RESERVED_PAGE && seen.insert(*page))
+        .all(|frame| frame.page != RESERVED_PAGE && seen.insert(frame.page))
 }

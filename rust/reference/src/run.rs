@@ -3,30 +3,27 @@
 
 use crate::lru::{Lru, Touch};
 use std::hash::BuildHasher;
-use types::limits::RESERVED_PAGE;
-use types::{Item, Summary};
+use types::event::event;
+use types::{Frame, Item, NUMBERS_PER_EVENT, Summary};
 
-/// Time, page, evicted page.
-pub(crate) const NUMBERS_PER_EVENT: usize = 3;
-
-/// What LRU did with a row of items, and the pages it left, most recently
+/// What LRU did with a row of items, and the frames it left, most recently
 /// used first.
 #[derive(Clone, Debug, PartialEq, Eq)]
 pub struct Run {
     pub events: Vec<u64>,
-    pub pages: Vec<u64>,
+    pub frames: Vec<Frame>,
     pub summary: Summary,
 }
 
 /// Runs a cache of `size` pages, not 0, over the items. It starts with these
-/// pages, which are distinct and no more than it has room for.
-pub fn run(items: impl IntoIterator<Item = Item>, size: usize, start: &[u64]) -> Run {
+/// frames, whose pages are distinct and no more than it has room for.
+pub fn run(items: impl IntoIterator<Item = Item>, size: usize, start: &[Frame]) -> Run {
     let mut list: Lru = Lru::start(size, start);
     let mut events = Vec::new();
     let summary = step_over(&mut list, items, |event| events.extend_from_slice(&event));
     Run {
         events,
-        pages: list.pages().collect(),
+        frames: list.frames().collect(),
         summary,
     }
 }
@@ -40,8 +37,8 @@ pub(crate) fn step_over<S: BuildHasher + Default>(
     let (mut count, mut fetches, mut evictions) = (0, 0, 0);
     for item in items {
         count += 1;
-        if let Touch::Fetch { evicted } = list.touch(item.page) {
-            fetched([item.time, item.page, evicted.unwrap_or(RESERVED_PAGE)]);
+        if let Touch::Fetch { evicted } = list.touch(item.page, item.written) {
+            fetched(event(item.time, item.page, evicted));
             fetches += 1;
             evictions += u64::from(evicted.is_some());
         }

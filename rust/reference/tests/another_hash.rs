@@ -2,8 +2,8 @@
 
 use reference::{replay, replay_with};
 use std::hash::RandomState;
-use types::Item;
 use types::layout::whole;
+use types::{Frame, Item};
 
 const ITEMS: u64 = 3_000;
 
@@ -11,6 +11,7 @@ fn file() -> Vec<u8> {
     let item = |time| Item {
         page: time * time % 701,
         time,
+        written: time % 10 < 3,
     };
     whole(&(0..ITEMS).map(item).collect::<Vec<_>>())
 }
@@ -19,7 +20,11 @@ fn file() -> Vec<u8> {
 fn a_replay_is_the_same() {
     let file = file();
     for (size, resident) in [(1, 0), (3, 2), (64, 64), (500, 7)] {
-        let mut lent: (Vec<u64>, Vec<u64>) = ((600..1_200).collect(), vec![5; 9_001]);
+        let frame = |page| Frame {
+            page,
+            written: page % 2 == 0,
+        };
+        let mut lent: (Vec<Frame>, _) = ((600..1_200).map(frame).collect(), vec![5; 12_001]);
         let mut others = lent.clone();
         let answer = replay(&file, size, &mut lent.0, resident, &mut lent.1);
         assert!(answer.is_ok());
@@ -30,7 +35,8 @@ fn a_replay_is_the_same() {
 
 #[test]
 fn a_page_twice_is_refused() {
-    let (mut cache, mut events) = ([4, 9, 4], vec![0; 3 * ITEMS as usize]);
+    let mut cache = [Frame::clean(4), Frame::clean(9), Frame::written(4)];
+    let mut events = vec![0; 4 * ITEMS as usize];
     let answer = replay_with::<RandomState>(&file(), 3, &mut cache, 3, &mut events);
     assert_eq!(answer.map_err(|(refusal, _)| refusal.number), Err(10));
 }

@@ -1,6 +1,6 @@
-//! The paper's examples on trace T.
+//! The paper's examples on trace T, in which nothing is written.
 
-use reference::{Header, Refusal, Summary, check, join, reduce, replay, run};
+use reference::{Frame, Header, Refusal, Summary, check, join, reduce, replay, run};
 use types::Item;
 use types::layout::{encode, whole};
 
@@ -11,7 +11,7 @@ const FASTSLIM: u64 = 1;
 fn trace(pages_and_times: &[(u64, u64)]) -> Vec<Item> {
     pages_and_times
         .iter()
-        .map(|&(page, time)| Item { page, time })
+        .map(|&(page, time)| Item::read(page, time))
         .collect()
 }
 
@@ -47,25 +47,26 @@ fn times(file: &[u8]) -> Vec<u64> {
         .collect()
 }
 
-/// Replays from an empty cache: events, summary, resident pages.
-fn replayed(file: &[u8], size: u64) -> (Vec<[u64; 3]>, Summary, Vec<u64>) {
-    let mut cache = vec![0; size as usize];
-    let mut events = vec![0; 3 * times(file).len()];
+/// Replays from an empty cache: events, summary, resident pages. All are clean.
+fn replayed(file: &[u8], size: u64) -> (Vec<[u64; 4]>, Summary, Vec<u64>) {
+    let mut cache = vec![Frame::written(0); size as usize];
+    let mut events = vec![0; 4 * times(file).len()];
     let summary = replay(file, size, &mut cache, 0, &mut events).expect("taken");
-    events.truncate(3 * summary.fetches as usize);
+    events.truncate(4 * summary.fetches as usize);
     cache.truncate(summary.resident as usize);
-    let events = events.chunks_exact(3).map(|e| [e[0], e[1], e[2]]).collect();
-    (events, summary, cache)
+    assert!(cache.iter().all(|frame| !frame.written));
+    let pages = cache.iter().map(|frame| frame.page).collect();
+    (events.as_chunks().0.to_vec(), summary, pages)
 }
 
 /// The five fetch lines of T with cache size 2.
-fn five_lines() -> Vec<[u64; 3]> {
+fn five_lines() -> Vec<[u64; 4]> {
     vec![
-        [10, 1, NONE],
-        [40, 2, NONE],
-        [60, 3, 2],
-        [80, 4, 1],
-        [110, 1, 4],
+        [10, 1, NONE, 0],
+        [40, 2, NONE, 0],
+        [60, 3, 2, 1],
+        [80, 4, 1, 1],
+        [110, 1, 4, 1],
     ]
 }
 
@@ -90,11 +91,13 @@ fn t_without_a_file() {
     let (events, summary, pages) = replayed(&whole(&t()), 2);
     let of_items = run(t(), 2, &[]);
     assert_eq!(of_items.events, events.concat());
-    assert_eq!((of_items.summary, of_items.pages), (summary, pages));
+    let clean = |pages: &[u64]| -> Vec<Frame> { pages.iter().copied().map(Frame::clean).collect() };
+    assert_eq!(of_items.summary, summary);
+    assert_eq!(of_items.frames, clean(&pages));
 
-    let from_a_start = run(trace(&[(3, 5), (4, 6)]), 2, &[3, 9]);
-    assert_eq!(from_a_start.events, [6, 4, 9]);
-    assert_eq!(from_a_start.pages, [4, 3]);
+    let from_a_start = run(trace(&[(3, 5), (4, 6)]), 2, &clean(&[3, 9]));
+    assert_eq!(from_a_start.events, [6, 4, 9, 1]);
+    assert_eq!(from_a_start.frames, clean(&[4, 3]));
 }
 
 #[test]
@@ -130,7 +133,12 @@ fn cache_3_evicts_only_page_2() {
     let (events, _, _) = replayed(&whole(&t()), 3);
     assert_eq!(
         events,
-        [[10, 1, NONE], [40, 2, NONE], [60, 3, NONE], [80, 4, 2]]
+        [
+            [10, 1, NONE, 0],
+            [40, 2, NONE, 0],
+            [60, 3, NONE, 0],
+            [80, 4, 2, 1]
+        ]
     );
 }
 
@@ -139,7 +147,7 @@ fn cache_1_is_below_the_filter() {
     let (_, summary, _) = replayed(&whole(&t()), 1);
     assert_eq!((summary.fetches, summary.evictions), (7, 6));
     let file = reduced(&whole(&t()), DEMAND, 2);
-    let answer = replay(&file, 1, &mut [0], 0, &mut [0; 24]);
+    let answer = replay(&file, 1, &mut [Frame::clean(0)], 0, &mut [0; 32]);
     assert_eq!(answer, Err((Refusal::new(9), 0)));
 }
 
@@ -206,7 +214,7 @@ fn the_edges_of_the_sizes() {
         assert_eq!(answer.is_ok(), taken, "filter {filter}");
         assert!(taken || answer == Err(Refusal::new(7)));
     }
-    let (mut cache, mut events) = (vec![0; 4097], vec![0; 36]);
+    let (mut cache, mut events) = (vec![Frame::clean(0); 4097], vec![0; 48]);
     for (size, taken) in [(0, false), (1, true), (4096, true), (4097, false)] {
         let answer = replay(&file, size, &mut cache, 0, &mut events);
         assert_eq!(answer.is_ok(), taken, "cache {size}");
@@ -232,7 +240,7 @@ fn the_misses_alone_replay_wrongly() {
         items: 5,
     };
     let (events, _, _) = replayed(&encode(&header, &misses), 2);
-    assert_eq!(events[2], [60, 3, 1]);
+    assert_eq!(events[2], [60, 3, 1, 1]);
 }
 
 /// In FastSlim an epoch keeps at most B(B+3)/2 items; B = 1 reaches it.
@@ -245,7 +253,7 @@ fn the_bound_on_a_fastslim_epoch_is_reached() {
             let repeated = (0..=newest).chain(0..=newest);
             items.extend(std::iter::once(newest).chain(repeated));
         }
-        let items: Vec<_> = items.iter().map(|&page| Item { page, time: 0 }).collect();
+        let items: Vec<_> = items.iter().map(|&page| Item::read(page, 0)).collect();
         let kept = times(&reduced(&whole(&items), FASTSLIM, filter)).len() as u64;
         assert_eq!(kept, filter * (filter + 3) / 2);
     }

@@ -1,17 +1,12 @@
 //! Each refusal with its trace and item, the order among them, and the
 //! buffers they leave alone.
 
-use reference::{Header, Refusal, check, join, reduce, replay};
+use reference::{Frame, Header, Refusal, check, join, reduce, replay};
 use types::Item;
 use types::layout::{encode, whole};
 
 fn items(count: u64) -> Vec<Item> {
-    (0..count)
-        .map(|n| Item {
-            page: n % 3,
-            time: n,
-        })
-        .collect()
+    (0..count).map(|n| Item::read(n % 3, n)).collect()
 }
 
 fn file(kind: u64, filter: u64, references: u64, count: u64) -> Vec<u8> {
@@ -111,8 +106,31 @@ fn items_are_refused_4_to_6_and_the_first_faulty_counts() {
     // All three faults in one item: the lowest number.
     falling[3].page = u64::MAX;
     assert_eq!(check(&whole(&falling)), Err(Refusal::of_item(5, 3)));
-    let all_three = with(&whole(&falling), 23 + 19 * 3, 6);
+    let all_three = with(&whole(&falling), 23 + 19 * 3, 7);
     assert_eq!(check(&all_three), Err(Refusal::of_item(4, 3)));
+}
+
+/// Tags 5 and 6 and no others, for each item by itself.
+#[test]
+fn two_tags_are_taken_and_the_others_refused_4() {
+    let good = file(0, 0, 4, 4);
+    for item in 0..4 {
+        for tag in 0..=255 {
+            let answer = check(&with(&good, 23 + 19 * item, tag));
+            match tag {
+                5 | 6 => assert_eq!(answer, check(&good), "tag {tag}"),
+                _ => assert_eq!(answer, Err(Refusal::of_item(4, item as u64)), "tag {tag}"),
+            }
+        }
+    }
+    // A write is held to the other rules as well.
+    let mut writes = items(4);
+    writes.iter_mut().for_each(|item| item.written = true);
+    assert_eq!(check(&whole(&writes)), check(&good));
+    writes[3].time = 1;
+    assert_eq!(check(&whole(&writes)), Err(Refusal::of_item(6, 3)));
+    writes[2].page = u64::MAX;
+    assert_eq!(check(&whole(&writes)), Err(Refusal::of_item(5, 2)));
 }
 
 #[test]
@@ -141,7 +159,7 @@ fn reduce_refuses_in_order_and_leaves_the_output() {
 fn join_refuses_in_order_and_leaves_the_output() {
     let good = file(0, 0, 4, 4);
     let mut out = vec![9; 23 + 19 * 8];
-    let bad_item = with(&good, 23 + 19, 6);
+    let bad_item = with(&good, 23 + 19, 7);
     assert_eq!(join(&bad_item, &[], &mut out), Err(Refusal::of_item(4, 1)));
     let second = Err(Refusal::of_item(4, 1).in_second());
     assert_eq!(join(&good, &bad_item, &mut out), second);
@@ -171,9 +189,9 @@ fn join_of_empty_files_never_falls() {
 
 #[test]
 fn join_over_a_million_items_is_refused_13() {
-    let half = whole(&vec![Item { page: 1, time: 1 }; 500_001]);
+    let half = whole(&vec![Item::read(1, 1); 500_001]);
     assert_eq!(join(&half, &half, &mut []), refused(13));
-    let exactly = whole(&vec![Item { page: 1, time: 1 }; 499_999]);
+    let exactly = whole(&vec![Item::read(1, 1); 499_999]);
     assert_eq!(join(&half, &exactly, &mut []), refused(11));
 }
 
@@ -202,19 +220,26 @@ fn joined_kinds() {
 #[test]
 fn replay_refuses_in_order_and_leaves_the_buffers() {
     let slim = file(2, 2, 4, 4);
-    let noise = [7, 8, 7, u64::MAX, 9];
-    let (mut cache, mut events) = (noise, [3; 12]);
+    let noise = [
+        Frame::clean(7),
+        Frame::written(8),
+        Frame::written(7),
+        Frame::clean(u64::MAX),
+        Frame::written(9),
+    ];
+    let (mut cache, mut events) = (noise, [3; 16]);
     for (bytes, size, places, resident, room, number) in [
-        (&slim[..22], 0, 5, 9, 12, 1),
-        (&slim[..], 0, 5, 9, 12, 7),
-        (&slim, 4097, 5, 9, 12, 7),
-        (&slim, 1, 5, 9, 12, 9),
-        (&slim, 2, 5, 3, 11, 10),
-        (&slim, 2, 1, 1, 11, 10),
-        (&slim, 3, 5, 3, 11, 10),
-        (&slim, 4, 5, 4, 11, 10),
-        (&slim, 6, 5, 1, 11, 10),
-        (&slim, 2, 5, 2, 11, 11),
+        (&slim[..22], 0, 5, 9, 16, 1),
+        (&slim[..], 0, 5, 9, 16, 7),
+        (&slim, 4097, 5, 9, 16, 7),
+        (&slim, 1, 5, 9, 16, 9),
+        (&slim, 2, 5, 3, 15, 10),
+        (&slim, 2, 1, 1, 15, 10),
+        (&slim, 3, 5, 3, 15, 10),
+        (&slim, 4, 5, 4, 15, 10),
+        (&slim, 6, 5, 1, 15, 10),
+        (&slim, 2, 5, 2, 15, 11),
+        (&slim, 2, 5, 2, 12, 11),
     ] {
         let answer = replay(
             bytes,
@@ -225,19 +250,33 @@ fn replay_refuses_in_order_and_leaves_the_buffers() {
         );
         assert_eq!(answer, Err((Refusal::new(number), resident as u64)));
     }
-    assert_eq!((cache, events), (noise, [3; 12]));
+    assert_eq!((cache, events), (noise, [3; 16]));
     assert!(replay(&slim, 2, &mut cache, 2, &mut events).is_ok());
+}
+
+/// A page is the same page whatever its mark.
+#[test]
+fn a_page_twice_is_refused_with_any_marks() {
+    let file = file(0, 0, 4, 4);
+    for marks in [[false, false], [false, true], [true, false], [true, true]] {
+        let mut cache = marks.map(|written| Frame { page: 7, written });
+        let answer = replay(&file, 2, &mut cache, 2, &mut [0; 16]);
+        assert_eq!(answer, Err((Refusal::new(10), 2)));
+    }
 }
 
 #[test]
 fn places_beyond_keep_what_they_had() {
     let short = whole(&items(2));
-    let (mut cache, mut events) = ([1, 77, 78, 79], [5; 9]);
+    let beyond = [Frame::clean(78), Frame::written(79)];
+    let mut cache = [Frame::clean(1), Frame::written(77), beyond[0], beyond[1]];
+    let mut events = [5; 12];
     let summary = replay(&short, 3, &mut cache, 1, &mut events).unwrap();
     // Page 0 is fetched, page 1 was there from the start.
     assert_eq!((summary.fetches, summary.resident), (1, 2));
-    assert_eq!(cache, [1, 0, 78, 79]);
-    assert_eq!(events, [0, 0, u64::MAX, 5, 5, 5, 5, 5, 5]);
+    assert_eq!(cache[..2], [1, 0].map(Frame::clean));
+    assert_eq!(cache[2..], beyond);
+    assert_eq!(events, [0, 0, u64::MAX, 0, 5, 5, 5, 5, 5, 5, 5, 5]);
     let mut out = vec![9; short.len() + 4];
     reduce(&short, 2, 1, &mut out).unwrap();
     assert_eq!(out[short.len()..], [9; 4]);
