@@ -5,8 +5,12 @@
 //! lasts for the whole call, and no two lent slices can overlap. The proofs
 //! of the archive's functions keep every access inside the slices and the row
 //! they were handed, for all inputs, and the functions keep nothing for later.
+//! A frame is laid out on both sides as C does it, and what the archive leaves
+//! in its mark is one of the two values that it has for a truth value, which
+//! are Rust's.
 
 use crate::row::{NUMBERS, Row};
+use types::Frame;
 
 unsafe extern "C" {
     fn shkembruq_check(file: *const u8, file_len: usize, row: *mut [u64; NUMBERS]);
@@ -35,8 +39,8 @@ unsafe extern "C" {
         file: *const u8,
         file_len: usize,
         size: u64,
-        cache: *mut u64,
-        cache_len: usize,
+        frames: *mut Frame,
+        frames_len: usize,
         resident: usize,
         events: *mut u64,
         events_len: usize,
@@ -82,7 +86,7 @@ pub fn join(first: &[u8], second: &[u8], out: &mut [u8], row: &mut Row) {
 pub fn replay(
     file: &[u8],
     size: u64,
-    cache: &mut [u64],
+    frames: &mut [Frame],
     resident: usize,
     events: &mut [u64],
     row: &mut Row,
@@ -93,8 +97,8 @@ pub fn replay(
             file.as_ptr(),
             file.len(),
             size,
-            cache.as_mut_ptr(),
-            cache.len(),
+            frames.as_mut_ptr(),
+            frames.len(),
             resident,
             events.as_mut_ptr(),
             events.len(),

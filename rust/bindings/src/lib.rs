@@ -4,7 +4,7 @@ mod archive;
 mod row;
 
 use row::Row;
-pub use types::{Header, Library, Refusal, Summary};
+pub use types::{Frame, Header, Library, Refusal, Summary};
 
 /// Checks a trace file and answers its header values.
 pub fn check(file: &[u8]) -> Result<Header, Refusal> {
@@ -29,12 +29,13 @@ pub fn join(first: &[u8], second: &[u8], out: &mut [u8]) -> Result<Header, Refus
 }
 
 /// Replays a trace file with an LRU cache of `size` pages that starts as the
-/// first `resident` places of `cache`. Each fetch writes time, page and
-/// evicted page to `events`. A refusal gives the resident count back.
+/// first `resident` frames of `cache`. Each fetch writes four numbers to
+/// `events`: time, page, evicted page, and what that was (`types::event`). A
+/// refusal gives the resident count back.
 pub fn replay(
     file: &[u8],
     size: u64,
-    cache: &mut [u64],
+    cache: &mut [Frame],
     resident: usize,
     events: &mut [u64],
 ) -> Result<Summary, (Refusal, u64)> {
@@ -70,7 +71,7 @@ impl Library for Proved {
         &self,
         file: &[u8],
         size: u64,
-        cache: &mut [u64],
+        cache: &mut [Frame],
         resident: usize,
         events: &mut [u64],
     ) -> Result<Summary, (Refusal, u64)> {

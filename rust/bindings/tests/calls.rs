@@ -1,6 +1,6 @@
 //! Each call goes through and its arguments arrive in their places.
 
-use bindings::{Refusal, check, join, reduce, replay};
+use bindings::{Frame, Refusal, check, join, reduce, replay};
 use types::Item;
 use types::layout::{file_bytes, whole};
 
@@ -9,7 +9,7 @@ fn file() -> Vec<u8> {
     let items: Vec<_> = pages
         .iter()
         .zip(1..)
-        .map(|(&page, n)| Item { page, time: 10 * n })
+        .map(|(&page, n)| Item::read(page, 10 * n))
         .collect();
     whole(&items)
 }
@@ -30,6 +30,16 @@ fn reduce_takes_mode_before_filter() {
 }
 
 #[test]
+fn reduce_takes_and_leaves_writes() {
+    let items = [Item::read(7, 1), Item::write(7, 2), Item::read(7, 3)];
+    let mut out = vec![0; whole(&items).len()];
+    let header = reduce(&whole(&items), 2, 1, &mut out).expect("taken");
+    assert_eq!(header.items, 2);
+    // The tags of the two items kept.
+    assert_eq!((out[23], out[23 + 19]), (5, 6));
+}
+
+#[test]
 fn join_takes_the_first_file_first() {
     let (empty, mut out) = (whole(&[]), vec![0; file().len()]);
     let answer = join(&empty, &file()[..30], &mut out);
@@ -40,11 +50,27 @@ fn join_takes_the_first_file_first() {
 
 #[test]
 fn replay_fills_cache_and_events() {
-    let (mut cache, mut events) = ([0; 3], [0; 36]);
+    let (mut cache, mut events) = ([Frame::written(0); 3], [0; 48]);
     let summary = replay(&file(), 2, &mut cache, 0, &mut events).expect("taken");
     assert_eq!((summary.fetches, summary.evictions), (5, 3));
-    assert_eq!(cache, [1, 3, 0]);
-    assert_eq!(events[..3], [10, 1, u64::MAX]);
+    let left = [Frame::clean(1), Frame::clean(3), Frame::written(0)];
+    assert_eq!(cache, left);
+    assert_eq!(events[..4], [10, 1, u64::MAX, 0]);
+    assert_eq!(events[8..12], [60, 3, 2, 1]);
     let answer = replay(&file(), 2, &mut cache, 9, &mut events);
     assert_eq!(answer, Err((Refusal::new(10), 9)));
+    assert_eq!(cache, left);
+}
+
+/// Page and mark of each frame arrive and come back in their places.
+#[test]
+fn replay_takes_and_leaves_marks() {
+    let file = whole(&[Item::read(5, 1), Item::write(6, 2), Item::read(8, 3)]);
+    let start = [Frame::written(5), Frame::clean(6), Frame::written(7)];
+    let (mut cache, mut events) = (start, [0; 12]);
+    let summary = replay(&file, 3, &mut cache, 3, &mut events).expect("taken");
+    assert_eq!((summary.fetches, summary.resident), (1, 3));
+    assert_eq!(events[..4], [3, 8, 7, 2]);
+    let left = [Frame::clean(8), Frame::written(6), Frame::written(5)];
+    assert_eq!(cache, left);
 }
