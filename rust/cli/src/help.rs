@@ -76,7 +76,9 @@ const REDUCE: &str = "\
 shkembruq reduce --mode MODE --filter B [--progress] IN -o OUT
 shkembruq reduce --mode MODE --filter B [--progress] IN... --out-dir DIR
 
-Reduces whole trace files. Each file written prints one line:
+Reduces whole trace files. A write that is left out makes a write of the last
+item of its page that is kept in its epoch, so that a replay still tells which
+pages are evicted written. Each file written prints one line:
   OUT: kind K filter B references R items N
 
   --mode MODE     fastslim or demand
@@ -102,11 +104,15 @@ const REPLAY: &str = "\
 shkembruq replay --cache K [--quiet] [--progress] FILE...
 
 Replays trace files with an LRU cache of K pages that starts empty. Prints a
-line `time page evicted` for each fetch, with `-` where nothing was evicted,
-then the tally, then the resident pages, most recent first:
-  items N fetches F evictions E permillion P
+line `time page evicted what` for each fetch, with `-` where nothing was
+evicted, and as `what` 0 there, 1 for a clean page and 2 for one that was
+written since its fetch; then the tally, then the resident pages, most recent
+first:
+  items N fetches F evictions E permillion P transfers T
   pages P1 P2 ...
-With several files, a line `FILE:` comes before each file's lines.
+The transfers are the fetches and the written pages evicted: what moves between
+the cache and the pool. With several files, a line `FILE:` comes before each
+file's lines.
 
   --cache K    cache size, 1 to 4096 and at least the file's filter size
   --quiet      only the tally; with several files as `FILE: items ...`
@@ -117,15 +123,17 @@ const CONVERT: &str = "\
 shkembruq convert [--lackey [--page-bits N]] [--progress] IN -o OUT
 
 Writes a recording as a whole trace file. IN is `-` for standard input. Each
-line of IN is `page time`, two decimal numbers; blank lines are passed over.
+line of IN is `page time`, two decimal numbers, for a read, or `page time w`
+for a write; blank lines are passed over.
 A recording of over 1,000,000 items is cut into files OUT.0, OUT.1, and so on.
 Each file written prints one line:
   OUT: kind 0 filter 0 references R items N
 
   --lackey        IN is what `valgrind --tool=lackey --trace-mem=yes` wrote;
                   each access is one item, a modify (M) too, its time the
-                  running number of the access from 0; lines that start with
-                  ==, -- or ** are passed over
+                  running number of the access from 0; a store (S) and a
+                  modify are writes, an instruction (I) and a load (L) reads;
+                  lines that start with ==, -- or ** are passed over
   --page-bits N   a page is an address without its low N bits; 0 to 63,
                   12 if not given
   -o OUT          the file to write

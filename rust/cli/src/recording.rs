@@ -5,11 +5,14 @@ use types::limits::RESERVED_PAGE;
 
 #[derive(Clone, Copy)]
 pub enum Format {
-    /// `page time`, two decimal numbers.
+    /// `page time`, two decimal numbers, and `w` after them for a write.
     Plain,
     /// What valgrind's lackey writes: kind of access, address, size.
     Lackey { page_bits: u32 },
 }
+
+/// What a line has after its numbers if it is a write.
+const WRITE_WORD: &str = "w";
 
 /// Lines valgrind itself adds start with one of these.
 const VALGRIND_MARKS: [&str; 3] = ["==", "--", "**"];
@@ -40,9 +43,10 @@ impl Reader {
             Format::Lackey { .. } if VALGRIND_MARKS.iter().any(|mark| text.starts_with(mark)) => {
                 return Ok(None);
             }
-            Format::Lackey { page_bits } => lackey(text).map(|address| Item {
-                page: address >> page_bits,
+            Format::Lackey { page_bits } => lackey(text).map(|access| Item {
+                page: access.address >> page_bits,
                 time: self.items,
+                written: access.written,
             }),
         };
         let item = item.ok_or_else(|| self.unreadable(text))?;
@@ -54,7 +58,7 @@ impl Reader {
 
     fn unreadable(&self, text: &str) -> String {
         let wanted = match self.format {
-            Format::Plain => "`page time` in decimal numbers of 64 bits",
+            Format::Plain => "`page time` or `page time w`, in decimal numbers of 64 bits",
             Format::Lackey { .. } => "an access as lackey writes it",
         };
         let start: String = text.chars().take(60).collect();
@@ -74,22 +78,38 @@ impl Reader {
 }
 
 fn plain(text: &str) -> Option<Item> {
-    let mut words = text.split_ascii_whitespace();
-    let item = Item {
-        page: decimal(words.next()?)?,
-        time: decimal(words.next()?)?,
+    let words: Vec<&str> = text.split_ascii_whitespace().collect();
+    let (page, time, written) = match words[..] {
+        [page, time] => (page, time, false),
+        [page, time, WRITE_WORD] => (page, time, true),
+        _ => return None,
     };
-    words.next().is_none().then_some(item)
+    Some(Item {
+        page: decimal(page)?,
+        time: decimal(time)?,
+        written,
+    })
 }
 
-/// The address of an access: `I  04001090,3`, ` L 1ffeffe7e,8` and so on.
-fn lackey(text: &str) -> Option<u64> {
+struct Access {
+    address: u64,
+    written: bool,
+}
+
+/// An access: `I  04001090,3`, ` L 1ffeffe7e,8` and so on. A modify (M) is a
+/// load and a store of one place by one instruction.
+fn lackey(text: &str) -> Option<Access> {
     let (kind, place) = text.split_once(' ')?;
     let (address, size) = place.trim_start().split_once(',')?;
     let is_hexadecimal = address.bytes().all(|byte| byte.is_ascii_hexdigit());
     decimal(size)?;
-    (matches!(kind, "I" | "L" | "S" | "M") && is_hexadecimal)
-        .then(|| u64::from_str_radix(address, 16).ok())?
+    let written = match kind {
+        "I" | "L" => false,
+        "S" | "M" => true,
+        _ => return None,
+    };
+    let address = is_hexadecimal.then(|| u64::from_str_radix(address, 16).ok())??;
+    Some(Access { address, written })
 }
 
 /// Digits only: the standard parser would take a sign as well.
@@ -102,11 +122,11 @@ fn decimal(word: &str) -> Option<u64> {
 mod tests {
     use super::*;
 
-    fn pages(format: Format, lines: &[&str]) -> Result<Vec<(u64, u64)>, String> {
+    fn items(format: Format, lines: &[&str]) -> Result<Vec<Item>, String> {
         let mut reader = Reader::new(format);
         let mut found = Vec::new();
         for line in lines {
-            found.extend(reader.line(line.as_bytes())?.map(|i| (i.page, i.time)));
+            found.extend(reader.line(line.as_bytes())?);
         }
         Ok(found)
     }
@@ -114,8 +134,21 @@ mod tests {
     #[test]
     fn plain_lines() {
         let lines = ["1 10\n", "\n", "  2\t10 \r\n", "3 18446744073709551615"];
-        let found = pages(Format::Plain, &lines);
-        assert_eq!(found, Ok(vec![(1, 10), (2, 10), (3, u64::MAX)]));
+        let found = items(Format::Plain, &lines);
+        let expected = [(1, 10), (2, 10), (3, u64::MAX)];
+        assert_eq!(found, Ok(expected.map(|(p, t)| Item::read(p, t)).to_vec()));
+    }
+
+    #[test]
+    fn plain_lines_that_are_writes() {
+        let lines = ["1 10 w\n", "1 11\n", " 2\t12  w \r\n", "2 12 w"];
+        let expected = [
+            Item::write(1, 10),
+            Item::read(1, 11),
+            Item::write(2, 12),
+            Item::write(2, 12),
+        ];
+        assert_eq!(items(Format::Plain, &lines), Ok(expected.to_vec()));
     }
 
     #[test]
@@ -123,15 +156,24 @@ mod tests {
         for line in [
             "1",
             "1 2 3",
+            "1 w",
+            "w 1 2",
+            "1 2w",
+            "1 2 W",
+            "1 2 r",
+            "1 2 w w",
+            "1 2 w 3",
             "a 1",
             "-1 2",
             "+1 2",
             "1 18446744073709551616",
         ] {
-            assert!(pages(Format::Plain, &[line]).is_err(), "{line}");
+            assert!(items(Format::Plain, &[line]).is_err(), "{line}");
         }
-        assert!(pages(Format::Plain, &["18446744073709551615 1"]).is_err());
-        assert!(pages(Format::Plain, &["1 5", "1 4"]).is_err());
+        assert!(items(Format::Plain, &["18446744073709551615 1"]).is_err());
+        assert!(items(Format::Plain, &["18446744073709551615 1 w"]).is_err());
+        assert!(items(Format::Plain, &["1 5", "1 4"]).is_err());
+        assert!(items(Format::Plain, &["1 5 w", "1 4 w"]).is_err());
     }
 
     #[test]
@@ -146,11 +188,17 @@ mod tests {
             " M 0421c7cc,4\n",
             "==7== \n",
         ];
-        let found = pages(Format::Lackey { page_bits: 12 }, &lines).unwrap();
-        let expected = [0x4001, 0x1ffeffe, 0x423f, 0x4001, 0x421c];
-        assert_eq!(found, expected.into_iter().zip(0..).collect::<Vec<_>>());
-        let bytes = pages(Format::Lackey { page_bits: 0 }, &lines[1..2]);
-        assert_eq!(bytes, Ok(vec![(0x0400_1090, 0)]));
+        let found = items(Format::Lackey { page_bits: 12 }, &lines);
+        let expected = [
+            Item::read(0x4001, 0),
+            Item::write(0x1ffeffe, 1),
+            Item::read(0x423f, 2),
+            Item::read(0x4001, 3),
+            Item::write(0x421c, 4),
+        ];
+        assert_eq!(found, Ok(expected.to_vec()));
+        let bytes = items(Format::Lackey { page_bits: 0 }, &lines[1..2]);
+        assert_eq!(bytes, Ok(vec![Item::read(0x0400_1090, 0)]));
     }
 
     #[test]
@@ -162,9 +210,10 @@ mod tests {
             "I 04001090,x",
             "I +4001090,3",
             "I 10000000000000000,3",
+            "S 04001090,3 w",
             "hello",
         ] {
-            let found = pages(Format::Lackey { page_bits: 12 }, &[line]);
+            let found = items(Format::Lackey { page_bits: 12 }, &[line]);
             assert!(found.is_err(), "{line}");
         }
     }

@@ -92,13 +92,14 @@ fn replay_prints_as_the_paper_does() {
     desk.put("t", &t_file());
     desk.put("empty", &whole(&[]));
     desk.run("replay --cache 2 t").is(0, T_REPLAYED, "");
-    let tally = "items 12 fetches 5 evictions 3 permillion 416666\n";
+    let tally = "items 12 fetches 5 evictions 3 permillion 416666 transfers 5\n";
     desk.run("replay --quiet --cache 2 t").is(0, tally, "");
-    let nothing = "items 0 fetches 0 evictions 0 permillion 0\npages\n";
-    desk.run("replay --cache 4096 empty").is(0, nothing, "");
+    let none = "items 0 fetches 0 evictions 0 permillion 0 transfers 0\n";
+    let nothing = format!("{none}pages\n");
+    desk.run("replay --cache 4096 empty").is(0, &nothing, "");
     let both = format!("t:\n{T_REPLAYED}empty:\n{nothing}");
     desk.run("replay --cache 2 t empty").is(0, &both, "");
-    let quiet = format!("t: {tally}empty: items 0 fetches 0 evictions 0 permillion 0\n");
+    let quiet = format!("t: {tally}empty: {none}");
     desk.run("replay --cache 2 --quiet t empty")
         .is(0, &quiet, "");
 }
@@ -130,9 +131,13 @@ fn convert_of_a_lackey_recording() {
         "log",
         b"==1== Lackey\nI  04001090,3\n S 1ffefff7e8,8\n M 04001fff,4\n==1== end\n",
     );
+    // An instruction is read; a store and a modify write.
     let items = |pages: [u64; 3]| {
-        let item = |(page, time)| Item { page, time };
-        whole(&pages.into_iter().zip(0..).map(item).collect::<Vec<_>>())
+        whole(&[
+            Item::read(pages[0], 0),
+            Item::write(pages[1], 1),
+            Item::write(pages[2], 2),
+        ])
     };
     assert_eq!(desk.run("convert --lackey log -o t").status, 0);
     assert_eq!(desk.get("t"), items([0x4001, 0x1ffefff, 0x4001]));
@@ -157,16 +162,13 @@ fn a_long_recording_is_cut() {
         "",
     );
     assert_eq!(desk.names(), ["lines", "t.0", "t.1"]);
-    let times = (1_000_000..1_000_003).map(|n| Item {
-        page: n % 50,
-        time: n,
-    });
+    let times = (1_000_000..1_000_003).map(|n| Item::read(n % 50, n));
     assert_eq!(desk.get("t.1"), whole(&times.collect::<Vec<_>>()));
     // A full file is worked on like any other.
     desk.run("replay --quiet --cache 64 t.0 t.1").is(
         0,
-        "t.0: items 1000000 fetches 50 evictions 0 permillion 50\n\
-         t.1: items 3 fetches 3 evictions 0 permillion 1000000\n",
+        "t.0: items 1000000 fetches 50 evictions 0 permillion 50 transfers 50\n\
+         t.1: items 3 fetches 3 evictions 0 permillion 1000000 transfers 3\n",
         "",
     );
     // Exactly a million is not cut.

@@ -28,7 +28,7 @@ fn refused_files_go_to_standard_error_in_order() {
     }
     desk.run("replay --cache 2 --quiet falling t").is(
         1,
-        "t: items 12 fetches 5 evictions 3 permillion 416666\n",
+        "t: items 12 fetches 5 evictions 3 permillion 416666 transfers 5\n",
         "falling: refused 6 trace 1 item 5\n",
     );
 }
@@ -70,7 +70,7 @@ fn a_refused_join_names_the_file() {
     desk.put("a", &whole(&t()[..7]));
     desk.put("b", &whole(&t()[7..]));
     let mut broken = t_file();
-    broken[23 + 19] = 6;
+    broken[23 + 19] = 7;
     desk.put("x", &broken);
     desk.run("join x a -o j")
         .is(1, "", "x: refused 4 trace 1 item 1\n");
@@ -247,7 +247,7 @@ fn a_numbered_file_is_kept_off_the_input() {
 #[test]
 fn a_write_that_stops_half_way_leaves_nothing() {
     let desk = Desk::new("half-way");
-    let item = |page| Item { page, time: page };
+    let item = |page| Item::read(page, page);
     desk.put("t", &whole(&(0..1000).map(item).collect::<Vec<_>>()));
     desk.put("old", b"what was there before");
     let reduce = "reduce --mode demand --filter 9 t -o";

@@ -98,10 +98,10 @@ impl Ended {
     }
 }
 
-/// Trace T of the paper.
+/// Trace T of the paper. Nothing in it is written.
 pub fn t() -> Vec<Item> {
     let pages = [1, 1, 1, 2, 1, 3, 3, 4, 3, 3, 1, 1];
-    let item = |(&page, time): (&u64, u64)| Item { page, time };
+    let item = |(&page, time): (&u64, u64)| Item::read(page, time);
     pages.iter().zip((10..).step_by(10)).map(item).collect()
 }
 
@@ -110,11 +110,11 @@ pub fn t_file() -> Vec<u8> {
 }
 
 pub const T_REPLAYED: &str = "\
-10 1 -
-40 2 -
-60 3 2
-80 4 1
-110 1 4
-items 12 fetches 5 evictions 3 permillion 416666
+10 1 - 0
+40 2 - 0
+60 3 2 1
+80 4 1 1
+110 1 4 1
+items 12 fetches 5 evictions 3 permillion 416666 transfers 5
 pages 1 3
 ";
