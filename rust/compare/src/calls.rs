@@ -2,10 +2,11 @@
 //! buffers of exactly enough, one less and more, all filled with noise.
 
 use crate::files::{Good, file, filter, good, of_kind};
-use crate::{Case, Random, damage, traces};
+use crate::{Case, Random, damage, marks, traces};
 use std::collections::HashSet;
 use types::layout::{HEADER_BYTES, file_bytes};
 use types::limits::{LARGEST_CACHE, LARGEST_FILTER, RESERVED_PAGE};
+use types::{Frame, NUMBERS_PER_EVENT};
 
 pub fn any(random: &mut Random) -> Case {
     match random.below(8) {
@@ -94,7 +95,7 @@ pub fn replay(random: &mut Random) -> Case {
     let size = size(random, &file);
     let (cache, resident) = cache(random, &file, size);
     let items = file.header.items as usize;
-    let room = room(random, 3 * items);
+    let room = room(random, NUMBERS_PER_EVENT * items);
     Case::Replay {
         size,
         cache,
@@ -119,24 +120,24 @@ fn size(random: &mut Random, file: &Good) -> u64 {
 }
 
 /// A starting cache in a buffer whose other places hold pages of the trace
-/// too: whoever reads beyond the resident ones is found out.
-fn cache(random: &mut Random, file: &Good, size: u64) -> (Vec<u64>, usize) {
+/// too, and any marks: whoever reads beyond the resident ones is found out.
+fn cache(random: &mut Random, file: &Good, size: u64) -> (Vec<Frame>, usize) {
     let size = size.min(LARGEST_CACHE + 2) as usize;
     let places = match random.below(12) {
         0 => size.saturating_sub(1),
         1..5 => size,
         _ => size + random.index(5),
     };
-    let mut cache: Vec<u64> = (0..places).map(|_| random.pick(&file.pool)).collect();
+    let mut pages: Vec<u64> = (0..places).map(|_| random.pick(&file.pool)).collect();
     let most = size.min(places);
     let resident = match random.below(4) {
         0 => 0,
         1 => most,
         _ => random.index(most + 1),
     };
-    fill_distinct(random, &file.pool, &mut cache[..resident]);
-    let resident = spoil(random, &mut cache, resident, size);
-    (cache, resident)
+    fill_distinct(random, &file.pool, &mut pages[..resident]);
+    let resident = spoil(random, &mut pages, resident, size);
+    (marks::frames(random, &pages), resident)
 }
 
 /// Distinct pages, of the trace as far as it has that many.
@@ -163,12 +164,14 @@ fn spoil(random: &mut Random, cache: &mut [u64], resident: usize, size: usize) -
     match random.below(30) {
         0 => size + 1,
         1 => random.pick(&[usize::MAX, 1 << 32, 5000]),
-        2 if resident > 1 => {
-            let (one, two) = (random.index(resident), random.index(resident));
-            cache[one] = cache[two];
+        // Often, so that the frames of such a page have the same mark and two.
+        2..5 if resident > 1 => {
+            let one = random.index(resident);
+            let two = one + 1 + random.index(resident - 1);
+            cache[one] = cache[two % resident];
             resident
         }
-        3 if resident > 0 => {
+        5 if resident > 0 => {
             cache[random.index(resident)] = RESERVED_PAGE;
             resident
         }

@@ -1,8 +1,8 @@
 //! A call as data: what is handed over, lent buffers with all they hold.
 
-use crate::frame::framed;
+use crate::margins::with_margins;
 use std::fmt;
-use types::{Header, Library, Refusal, Summary};
+use types::{Frame, Header, Library, Refusal, Summary};
 
 #[derive(Clone)]
 pub enum Case {
@@ -23,7 +23,7 @@ pub enum Case {
     Replay {
         file: Vec<u8>,
         size: u64,
-        cache: Vec<u64>,
+        cache: Vec<Frame>,
         resident: usize,
         events: Vec<u64>,
     },
@@ -54,9 +54,11 @@ impl Case {
                 mode,
                 filter,
                 out,
-            } => Answer::Header(framed(out, |out| library.reduce(file, *mode, *filter, out))),
+            } => Answer::Header(with_margins(out, |out| {
+                library.reduce(file, *mode, *filter, out)
+            })),
             Case::Join { first, second, out } => {
-                Answer::Header(framed(out, |out| library.join(first, second, out)))
+                Answer::Header(with_margins(out, |out| library.join(first, second, out)))
             }
             Case::Replay {
                 file,
@@ -64,8 +66,8 @@ impl Case {
                 cache,
                 resident,
                 events,
-            } => Answer::Summary(framed(cache, |cache| {
-                framed(events, |events| {
+            } => Answer::Summary(with_margins(cache, |cache| {
+                with_margins(events, |events| {
                     library.replay(file, *size, cache, *resident, events)
                 })
             })),
@@ -83,7 +85,7 @@ impl Case {
     }
 
     /// The buffers lent for writing: bytes, then cache, then events.
-    pub fn outputs(&self) -> (&[u8], &[u64], &[u64]) {
+    pub fn outputs(&self) -> (&[u8], &[Frame], &[u64]) {
         match self {
             Case::Check { .. } => (&[], &[], &[]),
             Case::Reduce { out, .. } | Case::Join { out, .. } => (out, &[], &[]),

@@ -72,6 +72,8 @@ pub struct Filter<'a> {
     fault: Option<FilterFault>,
     first: [usize; PLACES],
     last: [usize; PLACES],
+    /// Whether a write of the place's page was dropped.
+    dropped_a_write: [bool; PLACES],
     heads: [u16; FILTER.buckets as usize],
     next: [u16; PLACES],
     held: usize,
@@ -87,6 +89,7 @@ impl<'a> Filter<'a> {
             fault,
             first: [0; PLACES],
             last: [0; PLACES],
+            dropped_a_write: [false; PLACES],
             heads: [0; FILTER.buckets as usize],
             next: [0; PLACES],
             held: 0,
@@ -140,7 +143,19 @@ impl<'a> Filter<'a> {
         self.heads[FILTER.bucket(page) as usize] = (self.base + place + 1) as u16;
         self.first[place] = item;
         self.last[place] = self.noted(item);
+        self.dropped_a_write[place] = false;
         self.held += 1;
+    }
+
+    /// An item of a place's page is not kept.
+    pub fn note_dropped(&mut self, place: usize, item: Item) {
+        self.dropped_a_write[place] |= item.written;
+    }
+
+    /// The last items of the pages held of which a write was dropped.
+    pub fn lasts_to_mark(&self) -> impl Iterator<Item = usize> {
+        let places = (0..self.held).filter(|place| self.dropped_a_write[*place]);
+        places.map(|place| self.last[place])
     }
 
     pub fn empty(&mut self) {

@@ -1,7 +1,9 @@
 //! Damage to a file, in every field it has.
 
 use crate::Random;
-use types::layout::{FILTER, Field, HEADER_BYTES, ITEM_BYTES, ITEMS, KIND, REFERENCES};
+use types::layout::{
+    FILTER, Field, HEADER_BYTES, ITEM_BYTES, ITEMS, KIND, READ_TAG, REFERENCES, WRITE_TAG,
+};
 use types::limits::{LARGEST_FILTER, MOST_ITEMS, RESERVED_PAGE};
 
 /// Where an item's page and time start in its bytes.
@@ -76,12 +78,14 @@ fn item(random: &mut Random, bytes: &mut [u8]) {
     }
     let number = random.index(count);
     let at = HEADER_BYTES + ITEM_BYTES * number;
-    match random.below(5) {
+    match random.below(8) {
         0 => {
             let mark = at + random.index(3);
             change(random, &mut bytes[mark]);
         }
-        1 | 2 => bytes[at + PAGE..][..8].copy_from_slice(&RESERVED_PAGE.to_le_bytes()),
+        // The two tags that an item has, and their neighbours.
+        1 | 2 => bytes[at] = random.pick(&[READ_TAG - 1, READ_TAG, WRITE_TAG, WRITE_TAG + 1]),
+        3 | 4 => bytes[at + PAGE..][..8].copy_from_slice(&RESERVED_PAGE.to_le_bytes()),
         _ => fall(random, bytes, number, at),
     }
 }

@@ -2,12 +2,12 @@
 //! recording's files are reduced and joined, and the joined file's replay is
 //! held against LRU on the recording's own items, read from no file.
 
-use crate::frame::framed;
+use crate::margins::with_margins;
 use crate::recordings::{Portion, Recording};
 use crate::starts::Start;
 use reference::Run;
 use types::layout::{HEADER_BYTES, ITEM_BYTES, file_bytes, whole};
-use types::{Header, Library, Refusal, Summary};
+use types::{Frame, Header, Library, NUMBERS_PER_EVENT, Refusal, Summary};
 
 /// Where a library does not keep the promise.
 #[derive(Clone, Debug, PartialEq, Eq)]
@@ -28,6 +28,9 @@ pub enum Difference {
         number: usize,
     },
     Pages,
+    /// The pages are the recording's, what is said of their being written is
+    /// not.
+    Marks,
     Tally {
         answered: Summary,
         expected: Summary,
@@ -39,8 +42,6 @@ pub enum Difference {
 
 /// What a replay writes over, where it writes.
 const UNWRITTEN: u64 = 0x0123_4567_89AB_CDEF;
-
-const NUMBERS_PER_EVENT: usize = 3;
 
 /// Both halves of the check. Answers what the replay of the join counted.
 pub fn check(
@@ -62,7 +63,7 @@ pub fn joined(library: &dyn Library, recording: &Recording) -> Result<Vec<u8>, D
         .map(reduced)
         .collect::<Result<_, _>>()?;
     let mut join = |first: &[u8], second: &[u8], out: &mut [u8]| {
-        framed(out, |out| library.join(first, second, out))
+        with_margins(out, |out| library.join(first, second, out))
     };
     let mut join_by = |tree: usize| {
         let joined = recording.trees[tree].joined(&files, &mut join);
@@ -92,7 +93,7 @@ fn reduced(
 ) -> Result<Vec<u8>, Difference> {
     let file = whole(&recording.items[portion.items.clone()]);
     let mut out = vec![0; file.len()];
-    let answer = framed(&mut out, |out| {
+    let answer = with_margins(&mut out, |out| {
         library.reduce(&file, portion.mode, portion.filter, out)
     });
     let header = answer.map_err(|refusal| refused("reduce", refusal))?;
@@ -108,20 +109,20 @@ pub fn replays_as_recorded(
     joined: &[u8],
     start: &Start,
 ) -> Result<Summary, Difference> {
-    let mut cache = start.pages.clone();
-    cache.resize(start.size as usize, UNWRITTEN);
+    let mut cache = start.frames.clone();
+    cache.resize(start.size as usize, Frame::written(UNWRITTEN));
     let before = cache.clone();
     let mut events = vec![UNWRITTEN; NUMBERS_PER_EVENT * items_in(joined)];
-    let answer = framed(&mut cache, |cache| {
-        framed(&mut events, |events| {
-            library.replay(joined, start.size, cache, start.pages.len(), events)
+    let answer = with_margins(&mut cache, |cache| {
+        with_margins(&mut events, |events| {
+            library.replay(joined, start.size, cache, start.frames.len(), events)
         })
     });
     let answered = answer.map_err(|(refusal, _)| refused("replay", refusal))?;
     let items = recording.items.iter().copied();
-    let expected = reference::run(items, start.size as usize, &start.pages);
+    let expected = reference::run(items, start.size as usize, &start.frames);
     same_fetches(&events, &expected)?;
-    same_pages(&cache, &before, &expected)?;
+    same_frames(&cache, &before, &expected)?;
     same_tally(answered, items_in(joined) as u64, &expected)
 }
 
@@ -142,12 +143,16 @@ fn same_fetches(events: &[u64], expected: &Run) -> Result<(), Difference> {
     }
 }
 
-fn same_pages(cache: &[u64], before: &[u64], expected: &Run) -> Result<(), Difference> {
-    let (pages, rest) = cache.split_at(expected.pages.len());
-    if pages != expected.pages {
+fn same_frames(cache: &[Frame], before: &[Frame], expected: &Run) -> Result<(), Difference> {
+    let (frames, rest) = cache.split_at(expected.frames.len());
+    let pages = |frames: &[Frame]| -> Vec<u64> { frames.iter().map(|frame| frame.page).collect() };
+    if pages(frames) != pages(&expected.frames) {
         return Err(Difference::Pages);
     }
-    match rest == &before[pages.len()..] {
+    if frames != expected.frames {
+        return Err(Difference::Marks);
+    }
+    match rest == &before[frames.len()..] {
         true => Ok(()),
         false => Err(Difference::Rest),
     }

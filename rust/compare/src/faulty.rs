@@ -3,8 +3,8 @@
 
 use reference::Reference;
 use std::collections::{HashSet, VecDeque};
-use types::layout::{HEADER_BYTES, ITEM_BYTES, encode, file_bytes, put_header};
-use types::{Header, Item, Library, Refusal, Summary};
+use types::layout::{encode, file_bytes, put_header};
+use types::{Frame, Header, Item, Library, NUMBERS_PER_EVENT, Refusal, Summary};
 
 #[derive(Clone, Copy, Debug, PartialEq, Eq)]
 pub enum Fault {
@@ -129,7 +129,7 @@ impl Library for Faulty {
         &self,
         file: &[u8],
         size: u64,
-        cache: &mut [u64],
+        cache: &mut [Frame],
         resident: usize,
         events: &mut [u64],
     ) -> Result<Summary, (Refusal, u64)> {
@@ -226,17 +226,19 @@ impl Faulty {
     fn spoil_replay(
         &self,
         mut summary: Summary,
-        old: (&[u64], &[u64]),
-        cache: &mut [u64],
+        old: (&[Frame], &[u64]),
+        cache: &mut [Frame],
         events: &mut [u64],
     ) -> Summary {
-        let fetched = 3 * summary.fetches as usize;
+        let fetched = NUMBERS_PER_EVENT * summary.fetches as usize;
         match self.0 {
             ReplayTouchesNothing => {
                 cache.copy_from_slice(old.0);
                 events.copy_from_slice(old.1);
             }
-            ReplayInventsAfterTheFirst if fetched > 3 => events[3..fetched].fill(1),
+            ReplayInventsAfterTheFirst if summary.fetches > 1 => {
+                events[NUMBERS_PER_EVENT..fetched].fill(1);
+            }
             CountsOneFetchTooMany => summary.fetches += 1,
             ClearsUnusedEvents => events[fetched..].fill(0),
             LeavesTheCacheInAnotherOrder if summary.resident > 1 => cache.swap(0, 1),
@@ -260,14 +262,7 @@ pub(crate) fn rewrite(header: Header, items: &[Item], before: &[u8], out: &mut [
 }
 
 fn items(file: &[u8]) -> Vec<Item> {
-    let number = |bytes: &[u8]| u64::from_le_bytes(bytes.try_into().expect("eight bytes"));
-    file[HEADER_BYTES..]
-        .chunks_exact(ITEM_BYTES)
-        .map(|item| Item {
-            page: number(&item[3..11]),
-            time: number(&item[11..]),
-        })
-        .collect()
+    reference::items(file).collect()
 }
 
 /// The places of the first items of each epoch, and where the last epoch starts.

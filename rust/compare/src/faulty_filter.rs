@@ -5,7 +5,7 @@ use crate::chains::Filter;
 pub use crate::chains::{ALL, FilterFault, Met};
 use crate::faulty::rewrite;
 use reference::Reference;
-use types::{Header, Item, Library, Refusal, Summary};
+use types::{Frame, Header, Item, Library, Refusal, Summary};
 
 const FASTSLIM: u64 = 1;
 
@@ -39,7 +39,7 @@ impl Library for FaultyFilter {
         &self,
         file: &[u8],
         size: u64,
-        cache: &mut [u64],
+        cache: &mut [Frame],
         resident: usize,
         events: &mut [u64],
     ) -> Result<Summary, (Refusal, u64)> {
@@ -54,26 +54,29 @@ pub fn met(items: &[Item], size: u64) -> Met {
 }
 
 /// The items that are kept, by the rule of the reference: dropped is what is
-/// not the first of its page in its epoch and comes again in its stretch.
+/// not the first of its page in its epoch and comes again in its stretch. The
+/// last of its page in an epoch is a write if one that was dropped there was.
 fn kept_items(
     items: &[Item],
     mode: u64,
     size: usize,
     fault: Option<FilterFault>,
 ) -> (Vec<Item>, Met) {
-    let mut kept = vec![true; items.len()];
+    let mut kept: Vec<Option<Item>> = items.iter().copied().map(Some).collect();
     let mut filter = Filter::new(items, fault);
     let mut stretch_start = 0;
     for here in 0..items.len() {
         if let Some(place) = filter.find(here) {
             let (first, last) = filter.meet(place, here);
             if last >= stretch_start && last != first {
-                kept[last] = false;
+                kept[last] = None;
+                filter.note_dropped(place, items[last]);
             }
             continue;
         }
         let is_full = filter.is_full(size);
         if is_full {
+            mark(&filter, &mut kept);
             filter.empty();
         }
         if is_full || mode == FASTSLIM {
@@ -81,7 +84,16 @@ fn kept_items(
         }
         filter.add(here);
     }
-    let pairs = items.iter().zip(kept);
-    let kept = pairs.filter_map(|(item, kept)| kept.then_some(*item));
-    (kept.collect(), filter.met)
+    mark(&filter, &mut kept);
+    (kept.into_iter().flatten().collect(), filter.met)
+}
+
+/// At the end of an epoch. Where a fault has dropped the last item there is
+/// nothing to mark.
+fn mark(filter: &Filter, kept: &mut [Option<Item>]) {
+    for last in filter.lasts_to_mark() {
+        if let Some(item) = &mut kept[last] {
+            item.written = true;
+        }
+    }
 }

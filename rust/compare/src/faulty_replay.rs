@@ -3,11 +3,10 @@
 use crate::recency::{Log, Met, Touch};
 pub use crate::recency_faults::{ALL, HARMLESS, RecencyFault};
 use reference::Reference;
+use std::collections::HashSet;
+use types::event::{NOTHING, event};
 use types::limits::RESERVED_PAGE;
-use types::{Header, Item, Library, Refusal, Summary};
-
-/// Time, page, evicted page.
-const NUMBERS_PER_EVENT: usize = 3;
+use types::{Frame, Header, Item, Library, NUMBERS_PER_EVENT, Refusal, Summary};
 
 /// The reference with another replay.
 pub struct FaultyReplay(pub Option<RecencyFault>);
@@ -35,17 +34,17 @@ impl Library for FaultyReplay {
         &self,
         file: &[u8],
         size: u64,
-        cache: &mut [u64],
+        cache: &mut [Frame],
         resident: usize,
         events: &mut [u64],
     ) -> Result<Summary, (Refusal, u64)> {
-        let mut log = self
+        let mut cached = self
             .admit(file, size, cache, resident, events.len())
             .map_err(|refusal| (refusal, resident as u64))?;
         let items = reference::items(file);
-        let summary = step_over(&mut log, items, size as usize, events);
-        for (place, page) in cache.iter_mut().zip(log.pages()) {
-            *place = page;
+        let summary = step_over(&mut cached, items, size as usize, events);
+        for (place, frame) in cache.iter_mut().zip(cached.frames()) {
+            *place = frame;
         }
         Ok(summary)
     }
@@ -59,30 +58,75 @@ impl FaultyReplay {
         &self,
         file: &[u8],
         size: u64,
-        cache: &[u64],
+        cache: &[Frame],
         resident: usize,
         room: usize,
-    ) -> Result<Log, Refusal> {
+    ) -> Result<Cached, Refusal> {
         let (mut lent, mut events) = (cache.to_vec(), vec![0; room]);
         let answer = Reference.replay(file, size, &mut lent, 0, &mut events);
         let refusal = answer.err().map(|(refusal, _)| refusal);
         if let Some(early) = refusal.filter(|refusal| refusal.number <= 10) {
             return Err(early);
         }
-        let start = cache
-            .get(..resident)
-            .filter(|start| start.len() as u64 <= size && !start.contains(&RESERVED_PAGE));
-        let log = start.and_then(|start| Log::start(start, self.0));
-        match (log, refusal) {
+        let start = cache.get(..resident).filter(|start| {
+            let is_reserved = |frame: &Frame| frame.page == RESERVED_PAGE;
+            start.len() as u64 <= size && !start.iter().any(is_reserved)
+        });
+        let cached = start.and_then(|start| Cached::start(start, self.0));
+        match (cached, refusal) {
             (None, _) => Err(Refusal::new(10)),
             (_, Some(late)) => Err(late),
-            (Some(log), None) => Ok(log),
+            (Some(cached), None) => Ok(cached),
         }
     }
 }
 
+/// A log and, beside it, which of its pages are written: what is wrong with a
+/// log is how it finds and keeps pages.
+struct Cached {
+    log: Log,
+    written: HashSet<u64>,
+}
+
+impl Cached {
+    fn start(frames: &[Frame], fault: Option<RecencyFault>) -> Option<Cached> {
+        let pages: Vec<u64> = frames.iter().map(|frame| frame.page).collect();
+        let written = frames.iter().filter(|frame| frame.written);
+        Some(Cached {
+            log: Log::start(&pages, fault)?,
+            written: written.map(|frame| frame.page).collect(),
+        })
+    }
+
+    /// The event of an item, if it is a fetch.
+    fn touch(&mut self, item: Item, size: usize) -> Option<[u64; NUMBERS_PER_EVENT]> {
+        let touch = self.log.touch(item.page, size);
+        let told = match touch {
+            Touch::Hit => None,
+            Touch::Fetch { evicted } => {
+                let evicted = evicted.map(|page| Frame {
+                    page,
+                    written: self.written.remove(&page),
+                });
+                Some(event(item.time, item.page, evicted))
+            }
+        };
+        if item.written {
+            self.written.insert(item.page);
+        }
+        told
+    }
+
+    fn frames(&self) -> impl Iterator<Item = Frame> {
+        self.log.pages().map(|page| Frame {
+            page,
+            written: self.written.contains(&page),
+        })
+    }
+}
+
 fn step_over(
-    log: &mut Log,
+    cached: &mut Cached,
     items: impl Iterator<Item = Item>,
     size: usize,
     events: &mut [u64],
@@ -91,19 +135,18 @@ fn step_over(
     let mut places = events.chunks_exact_mut(NUMBERS_PER_EVENT);
     for item in items {
         count += 1;
-        if let Touch::Fetch { evicted } = log.touch(item.page, size) {
-            let event = [item.time, item.page, evicted.unwrap_or(RESERVED_PAGE)];
+        if let Some(event) = cached.touch(item, size) {
             let place = places.next().expect("room for each fetch");
             place.copy_from_slice(&event);
             fetches += 1;
-            evictions += u64::from(evicted.is_some());
+            evictions += u64::from(event[3] != NOTHING);
         }
     }
     Summary {
         items: count,
         fetches,
         evictions,
-        resident: log.resident() as u64,
+        resident: cached.log.resident() as u64,
         permillion: (fetches * 1_000_000).checked_div(count).unwrap_or(0),
     }
 }

@@ -2,8 +2,8 @@
 
 use crate::Case;
 use crate::case::Answer;
-use types::Library;
 use types::layout::file_bytes;
+use types::{Library, NUMBERS_PER_EVENT};
 
 /// The refusals of the library that can occur; 14 never does.
 pub const REFUSALS: std::ops::RangeInclusive<usize> = 1..=13;
@@ -73,7 +73,8 @@ fn keeps_the_rest(before: &Case, after: &Case, answer: &Answer) -> bool {
     let (bytes, cache, events) = match answer {
         Answer::Header(Ok(header)) => (file_bytes(header.items as usize), 0, 0),
         Answer::Summary(Ok(summary)) => {
-            (0, summary.resident as usize, 3 * summary.fetches as usize)
+            let events = NUMBERS_PER_EVENT * summary.fetches as usize;
+            (0, summary.resident as usize, events)
         }
         _ => (0, 0, 0),
     };

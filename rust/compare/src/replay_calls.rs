@@ -6,7 +6,8 @@ use crate::faulty_replay::met;
 use crate::hostile::Pool;
 use crate::hostile_calls::order;
 use crate::recency::{Met, PLACES};
-use crate::{Case, Random, starts, traces};
+use crate::{Case, Random, marks, starts, traces};
+use types::NUMBERS_PER_EVENT;
 use types::layout::whole;
 use types::limits::LARGEST_CACHE;
 
@@ -23,15 +24,17 @@ pub struct Plan {
 
 impl Plan {
     /// The call. There may be room beyond what it writes. The places of the
-    /// cache that are not resident hold pages, most of them of the trace.
+    /// cache that are not resident hold pages, most of them of the trace. Marks
+    /// are any, in the cache and in the trace.
     pub fn case(&self, random: &mut Random) -> Case {
         let places = self.size as usize + random.index(4);
         let others = self.row.iter().rev().chain([&7]).cycle();
-        let cache = self.start.iter().chain(others).take(places);
-        let events = 3 * self.row.len() + random.index(5);
+        let pages = self.start.iter().chain(others).take(places);
+        let pages: Vec<u64> = pages.copied().collect();
+        let events = NUMBERS_PER_EVENT * self.row.len() + random.index(5);
         Case::Replay {
             size: self.size,
-            cache: cache.copied().collect(),
+            cache: marks::frames(random, &pages),
             resident: self.start.len(),
             events: vec![random.bits(); events],
             file: whole(&traces::timed(random, &self.row)),
@@ -94,8 +97,9 @@ mod tests {
         else {
             panic!("a replay");
         };
-        assert_eq!((&cache[..4], resident), (&[9, 8, 3, 2][..], 2));
-        assert!((9..9 + 5).contains(&events.len()));
+        let pages: Vec<u64> = cache[..4].iter().map(|frame| frame.page).collect();
+        assert_eq!((&pages[..], resident), (&[9, 8, 3, 2][..], 2));
+        assert!((12..12 + 5).contains(&events.len()));
     }
 
     /// Random plans bring a log to all that it does.

@@ -1,14 +1,15 @@
-//! What a replay starts with: a cache size and the pages resident.
+//! What a replay starts with: a cache size and the frames resident.
 
-use crate::Random;
+use crate::{Random, marks};
+use types::Frame;
 use types::limits::LARGEST_CACHE;
 
-/// A cache size and the pages it starts with, distinct and no more than it
-/// has room for.
+/// A cache size and the frames it starts with, their pages distinct and no
+/// more than it has room for.
 #[derive(Clone, Debug)]
 pub struct Start {
     pub size: u64,
-    pub pages: Vec<u64>,
+    pub frames: Vec<Frame>,
 }
 
 impl Start {
@@ -16,7 +17,8 @@ impl Start {
     pub fn random(random: &mut Random, largest: u64, pool: &[u64]) -> Start {
         let size = cache_size(random, largest);
         let pages = pages(random, pool, size);
-        Start { size, pages }
+        let frames = marks::frames(random, &pages);
+        Start { size, frames }
     }
 }
 

@@ -1,6 +1,7 @@
 //! Random traces of several shapes.
 
 use crate::Random;
+use crate::marks::Marks;
 use types::Item;
 use types::limits::RESERVED_PAGE;
 
@@ -35,11 +36,13 @@ pub fn pool(random: &mut Random, pages: usize) -> Vec<u64> {
         .collect()
 }
 
-/// So many items over the pages of the pool.
+/// So many items over the pages of the pool, of which some are writes, or none
+/// or all are.
 pub fn items(random: &mut Random, pool: &[u64], count: usize) -> Vec<Item> {
     let shapes = [Shape::Uniform, Shape::Loop, Shape::Skewed, Shape::Bursts];
     let mut shape = random.pick(&shapes);
     let mut clock = Clock::new(random);
+    let marks = Marks::random(random);
     let mut place = 0;
     (0..count)
         .map(|_| {
@@ -51,19 +54,22 @@ pub fn items(random: &mut Random, pool: &[u64], count: usize) -> Vec<Item> {
             Item {
                 page: pool[place],
                 time: clock.next(random),
+                written: marks.next(random),
             }
         })
         .collect()
 }
 
-/// These pages, with times.
+/// These pages, with times and marks.
 pub fn timed(random: &mut Random, pages: &[u64]) -> Vec<Item> {
     let mut clock = Clock::new(random);
+    let marks = Marks::random(random);
     pages
         .iter()
         .map(|page| Item {
             page: *page,
             time: clock.next(random),
+            written: marks.next(random),
         })
         .collect()
 }

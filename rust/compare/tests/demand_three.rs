@@ -1,15 +1,17 @@
 //! A trace cut anywhere, each part reduced in its own way or left whole, and
 //! joined again: from every start a cache at least as large as the largest
-//! filter makes the same fetches, at the same times, and ends alike.
+//! filter makes the same fetches, at the same times, evicts the same pages
+//! written and clean, and ends alike, marks included.
 
 use bindings::Proved;
 use compare::report::say;
 use compare::starts::Start;
 use compare::{Random, traces};
 use reference::Reference;
-use types::layout::{file_bytes, whole};
+use types::event::WRITTEN;
+use types::layout::{HEADER_BYTES, ITEM_BYTES, file_bytes, whole};
 use types::limits::LARGEST_FILTER;
-use types::{Item, Library, Summary};
+use types::{Frame, Item, Library, NUMBERS_PER_EVENT, Summary};
 
 const TRACES: u64 = 4_000;
 const REPLAYS_EACH: u64 = 3;
@@ -17,7 +19,15 @@ const REPLAYS_EACH: u64 = 3;
 struct Replayed {
     summary: Summary,
     events: Vec<u64>,
-    cache: Vec<u64>,
+    cache: Vec<Frame>,
+}
+
+impl Replayed {
+    /// How many written pages were evicted.
+    fn written(&self) -> u64 {
+        let (events, _) = self.events.as_chunks::<NUMBERS_PER_EVENT>();
+        events.iter().filter(|event| event[3] == WRITTEN).count() as u64
+    }
 }
 
 #[test]
@@ -34,6 +44,7 @@ fn reductions_replay_alike(name: &str, library: &dyn Library) {
     let seed = Random::seed();
     let mut random = Random::new(seed ^ 3);
     let (mut replays, mut shorter, mut evictions) = (0, 0, 0);
+    let (mut written, mut left_written) = (0, 0);
     for number in 0..TRACES {
         let pages = traces::pages(&mut random);
         let pool = traces::pool(&mut random, pages);
@@ -50,20 +61,24 @@ fn reductions_replay_alike(name: &str, library: &dyn Library) {
             same(&one, &two, &place);
             replays += 1;
             evictions += one.summary.evictions;
+            written += one.written();
+            left_written += one.cache.iter().filter(|frame| frame.written).count() as u64;
         }
     }
     say(&format!(
         "demand 3, {name}: seed {seed}, {TRACES} traces, {shorter} made shorter, \
-         {replays} replays, {evictions} evictions"
+         {replays} replays, {evictions} evictions, {written} of written pages, \
+         {left_written} written pages left"
     ));
     // Otherwise the test would have shown nothing.
     assert_eq!(replays, TRACES * REPLAYS_EACH);
     assert!(shorter > TRACES / 3 && evictions > TRACES);
+    assert!(written > evictions / 10 && written < evictions && left_written > TRACES);
 }
 
 fn same(one: &Replayed, two: &Replayed, place: &str) {
     assert_eq!(one.events, two.events, "{place}: events");
-    assert_eq!(one.cache, two.cache, "{place}: resident pages");
+    assert_eq!(one.cache, two.cache, "{place}: resident frames");
     let (one, two) = (one.summary, two.summary);
     assert_eq!(
         (one.fetches, one.evictions, one.resident),
@@ -126,13 +141,15 @@ fn join(library: &dyn Library, first: &[u8], second: &[u8]) -> Vec<u8> {
 }
 
 fn replay(library: &dyn Library, file: &[u8], start: &Start) -> Replayed {
-    let mut cache = start.pages.clone();
-    cache.resize(start.size as usize, 0);
-    let mut events = vec![0; 3 * (file.len() - 23) / 19];
+    let mut cache = start.frames.clone();
+    cache.resize(start.size as usize, Frame::clean(0));
+    let items = (file.len() - HEADER_BYTES) / ITEM_BYTES;
+    let mut events = vec![0; NUMBERS_PER_EVENT * items];
+    let resident = start.frames.len();
     let summary = library
-        .replay(file, start.size, &mut cache, start.pages.len(), &mut events)
+        .replay(file, start.size, &mut cache, resident, &mut events)
         .expect("taken");
-    events.truncate(3 * summary.fetches as usize);
+    events.truncate(NUMBERS_PER_EVENT * summary.fetches as usize);
     cache.truncate(summary.resident as usize);
     Replayed {
         summary,

@@ -7,25 +7,16 @@ use compare::report::say_seen;
 use compare::{Case, Judge, Random};
 use reference::Reference;
 use types::layout::{encode, whole};
-use types::{Header, Item};
+use types::{Frame, Header, Item};
 
 const ITEMS: [Item; 3] = [
-    Item { page: 7, time: 300 },
-    Item {
-        page: u64::MAX - 1,
-        time: 300,
-    },
-    Item {
-        page: 0x00FF_FFFF_FFFF_FFFF,
-        time: 70_000,
-    },
+    Item::read(7, 300),
+    Item::write(u64::MAX - 1, 300),
+    Item::read(0x00FF_FFFF_FFFF_FFFF, 70_000),
 ];
 
 /// Goes after ITEMS without a time falling.
-const LATER: Item = Item {
-    page: 7,
-    time: 70_001,
-};
+const LATER: Item = Item::write(7, 70_001);
 
 fn files() -> Vec<Vec<u8>> {
     let reduced = |kind, filter, references| {
@@ -69,9 +60,9 @@ fn in_all_functions(judge: &mut Judge, file: &[u8]) {
     judge.insist(&Case::Replay {
         file,
         size: 2,
-        cache: vec![7, 8, 9],
+        cache: vec![Frame::written(7), Frame::clean(8), Frame::written(9)],
         resident: 2,
-        events: vec![5; 10],
+        events: vec![5; 13],
     });
 }
 

@@ -1,32 +1,46 @@
 //! Files of 1,000,000 items, once through each function.
 
 use bindings::Proved;
+use compare::marks::Marks;
 use compare::report::say_seen;
 use compare::{Case, Judge, Random, calls};
 use reference::Reference;
-use types::Item;
 use types::layout::whole;
 use types::limits::MOST_ITEMS;
+use types::{Frame, Item, NUMBERS_PER_EVENT};
 
 /// Skewed over 3,000 pages: hits near the front, hits far back, and misses.
+/// Three in ten are writes.
 fn items(count: u64) -> Vec<Item> {
     let mut random = Random::new(Random::seed() ^ 6);
     (0..count)
         .map(|time| {
             let bound = 1 + random.below(3000);
             let page = random.below(bound);
-            Item { page, time }
+            let written = Marks::ThreeInTen.next(&mut random);
+            Item {
+                page,
+                time,
+                written,
+            }
         })
         .collect()
+}
+
+fn frame(page: u64) -> Frame {
+    Frame {
+        page,
+        written: page % 3 == 0,
+    }
 }
 
 fn replay(file: &[u8], size: u64) -> Case {
     Case::Replay {
         file: file.to_vec(),
         size,
-        cache: (2_900..2_900 + size + 3).collect(),
+        cache: (2_900..2_900 + size + 3).map(frame).collect(),
         resident: size as usize,
-        events: vec![8; 3 * MOST_ITEMS as usize + 2],
+        events: vec![8; NUMBERS_PER_EVENT * MOST_ITEMS as usize + 2],
     }
 }
 

@@ -23,7 +23,7 @@ fn file(kind: u64, references: u64, items: u64) -> Vec<u8> {
         references,
         items,
     };
-    encode(&header, &vec![Item { page: 1, time: 9 }; items as usize])
+    encode(&header, &vec![Item::write(1, 9); items as usize])
 }
 
 /// Joins as the tree says, each join compared between the two libraries.

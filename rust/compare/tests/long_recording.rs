@@ -4,12 +4,13 @@
 use bindings::Proved;
 use compare::Random;
 use compare::faithful::{joined, replays_as_recorded};
+use compare::marks::Marks;
 use compare::recordings::{Portion, Recording};
 use compare::report::say;
 use compare::starts::Start;
 use compare::trees::Tree;
-use types::Item;
 use types::limits::MOST_ITEMS;
+use types::{Frame, Item};
 
 /// Each file's items, mode and filter.
 const FILES: [(usize, u64, u64); 5] = [
@@ -22,7 +23,7 @@ const FILES: [(usize, u64, u64); 5] = [
 
 /// A neighbourhood of pages that moves on slowly, its first pages far more
 /// often than its last, each a few times in a row; and now and then a page
-/// from anywhere.
+/// from anywhere. Three items in ten are writes.
 fn items(random: &mut Random, count: usize) -> Vec<Item> {
     let mut page = 0;
     (0..count as u64)
@@ -35,8 +36,11 @@ fn items(random: &mut Random, count: usize) -> Vec<Item> {
                 _ => page,
             };
             // Pairs of equal times, one of which a cut takes apart.
-            let time = time / 2;
-            Item { page, time }
+            Item {
+                page,
+                time: time / 2,
+                written: Marks::ThreeInTen.next(random),
+            }
         })
         .collect()
 }
@@ -88,9 +92,13 @@ fn longer_than_a_file() {
     let file = joined(&Proved, &recording).unwrap_or_else(|d| panic!("seed {seed}: {d:?}"));
     for size in [largest, largest + 60] {
         // Full from the start, of pages near and far.
+        let frame = |place: u64| Frame {
+            page: 7 * place,
+            written: place % 2 == 0,
+        };
         let start = Start {
             size,
-            pages: (0..size).map(|place| 7 * place).collect(),
+            frames: (0..size).map(frame).collect(),
         };
         let tally = replays_as_recorded(&Proved, &recording, &file, &start)
             .unwrap_or_else(|d| panic!("seed {seed} size {size}: {d:?}"));

@@ -10,7 +10,7 @@ use compare::report::say;
 use compare::starts::Start;
 use compare::{Random, traces};
 use reference::Reference;
-use types::{Library, Summary};
+use types::{Frame, Library, Summary};
 
 const RECORDINGS: u64 = 10_000;
 
@@ -40,6 +40,8 @@ struct Met {
     both_modes: u64,
     with_an_empty_file: u64,
     from_pages: u64,
+    from_written_pages: u64,
+    with_reads_and_writes: u64,
 }
 
 impl Met {
@@ -57,7 +59,11 @@ impl Met {
         self.bracketed_in_two_ways += u64::from(one != two);
         self.both_modes += u64::from(recording.has_both_modes());
         self.with_an_empty_file += u64::from(recording.has_an_empty_file());
-        self.from_pages += u64::from(!start.pages.is_empty());
+        self.from_pages += u64::from(!start.frames.is_empty());
+        let is_written = |frame: &Frame| frame.written;
+        self.from_written_pages += u64::from(start.frames.iter().any(is_written));
+        let writes = recording.items.iter().filter(|item| item.written).count() as u64;
+        self.with_reads_and_writes += u64::from(0 < writes && writes < references);
     }
 
     fn insist_on_enough(&self) {
@@ -72,6 +78,8 @@ impl Met {
             self.both_modes,
             self.with_an_empty_file,
             self.from_pages,
+            self.from_written_pages,
+            self.with_reads_and_writes,
         ];
         assert!(often.iter().all(|count| *count > RECORDINGS / 5));
     }

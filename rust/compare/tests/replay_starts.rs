@@ -7,6 +7,7 @@ use compare::replay_calls::Plan;
 use compare::report::say_seen;
 use compare::{Case, Judge, Random};
 use reference::Reference;
+use types::Frame;
 use types::limits::{LARGEST_CACHE, RESERVED_PAGE};
 
 const MOST: usize = LARGEST_CACHE as usize;
@@ -124,7 +125,7 @@ fn what_is_not_resident_is_not_looked_at() {
                 cache, resident, ..
             } = &mut case
             {
-                cache[*resident..].fill(filler);
+                cache[*resident..].fill(Frame::written(filler));
             }
             judge.insist(&case);
         }

@@ -6,13 +6,17 @@ use compare::report::say_seen;
 use compare::{Case, Judge, Random};
 use reference::Reference;
 use types::layout::{encode, whole};
-use types::{Header, Item};
+use types::{Frame, Header, Item};
 
 fn items(pages: &[u64]) -> Vec<Item> {
     pages
         .iter()
         .zip(0..)
-        .map(|(&page, time)| Item { page, time })
+        .map(|(&page, time)| Item {
+            page,
+            time,
+            written: time % 3 == 1,
+        })
         .collect()
 }
 
@@ -71,9 +75,9 @@ fn cache_sizes_and_residents() {
                     judge.insist(&Case::Replay {
                         file: file.clone(),
                         size: *size,
-                        cache: (2..2 + places).collect(),
+                        cache: (2..2 + places).map(Frame::written).collect(),
                         resident: resident as usize,
-                        events: vec![6; 31],
+                        events: vec![6; 41],
                     });
                 }
             }
@@ -87,19 +91,23 @@ fn cache_sizes_and_residents() {
 }
 
 /// Every starting cache of up to four places over a few pages, the reserved
-/// one among them, with every resident count and room.
+/// one among them, with every resident count and room, and marks that change
+/// from one to the next. Room of three numbers for each item is not enough.
 #[test]
 fn every_small_start() {
     let mut judge = Judge::new(&Proved, &Reference);
     let file = whole(&items(&[1, 2, 3, 1]));
     let pages = [1, 2, 3, u64::MAX];
     for number in 0..256 {
-        let cache: Vec<u64> = (0..4)
-            .map(|digit| pages[number >> (2 * digit) & 3])
+        let cache: Vec<Frame> = (0..4)
+            .map(|digit| Frame {
+                page: pages[number >> (2 * digit) & 3],
+                written: number * 7 >> digit & 1 == 1,
+            })
             .collect();
         for size in 1..=5 {
             for resident in 0..=5 {
-                for room in [0, 11, 12, 13] {
+                for room in [0, 12, 15, 16, 17] {
                     judge.insist(&Case::Replay {
                         file: file.clone(),
                         size,
@@ -112,6 +120,6 @@ fn every_small_start() {
         }
     }
     say_seen("small starts", Random::seed(), &judge.seen);
-    assert_eq!(judge.seen.cases, 256 * 5 * 6 * 4);
+    assert_eq!(judge.seen.cases, 256 * 5 * 6 * 5);
     assert!(judge.seen.refused[10] > 0 && judge.seen.refused[11] > 0);
 }

@@ -8,20 +8,24 @@ use types::layout::{encode, whole};
 use types::{Header, Item};
 
 const LINES: &str = "\
-10 1 -
-40 2 -
-60 3 2
-80 4 1
-110 1 4
-items 12 fetches 5 evictions 3 permillion 416666
+10 1 - 0
+40 2 - 0
+60 3 2 1
+80 4 1 2
+110 1 4 1
+items 12 fetches 5 evictions 3 permillion 416666 transfers 6
 pages 1 3
 ";
 
+/// Its second item and its seventh, of pages 1 and 3, are writes.
 fn t() -> Vec<Item> {
     let pages = [1, 1, 1, 2, 1, 3, 3, 4, 3, 3, 1, 1];
-    let times = (1..).map(|number| 10 * number);
-    let items = pages.into_iter().zip(times);
-    items.map(|(page, time)| Item { page, time }).collect()
+    let item = |(page, number): (u64, u64)| Item {
+        page,
+        time: 10 * number,
+        written: [2, 7].contains(&number),
+    };
+    pages.into_iter().zip(1..).map(item).collect()
 }
 
 /// Runs `whole` with a cache size and files that hold these bytes.
@@ -58,7 +62,7 @@ fn t_in_one_file_and_in_several() {
 #[test]
 fn an_empty_recording() {
     let output = run("empty", "7", &[whole(&[])]);
-    let lines = "items 0 fetches 0 evictions 0 permillion 0\npages\n";
+    let lines = "items 0 fetches 0 evictions 0 permillion 0 transfers 0\npages\n";
     assert_eq!(String::from_utf8_lossy(&output.stdout), lines);
 }
 

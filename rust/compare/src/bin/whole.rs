@@ -11,11 +11,9 @@ use std::fmt::Write as _;
 use std::fs;
 use std::io::{self, Write as _};
 use std::process::ExitCode;
-use types::Item;
-use types::limits::{LARGEST_CACHE, RESERVED_PAGE};
-
-/// Time, page, evicted page.
-const NUMBERS_PER_EVENT: usize = 3;
+use types::event::{NOTHING, transfers};
+use types::limits::LARGEST_CACHE;
+use types::{Item, NUMBERS_PER_EVENT};
 
 fn main() -> ExitCode {
     let arguments: Vec<String> = env::args().skip(1).collect();
@@ -67,16 +65,17 @@ fn append(recording: &mut Vec<Item>, path: &str) -> Result<(), String> {
 
 fn lines(run: &Run) -> String {
     let mut text = String::new();
-    for event in run.events.chunks_exact(NUMBERS_PER_EVENT) {
-        let evicted = match event[2] {
-            RESERVED_PAGE => "-".to_string(),
-            page => page.to_string(),
+    for [time, page, evicted, what] in run.events.as_chunks::<NUMBERS_PER_EVENT>().0 {
+        let evicted = match *what {
+            NOTHING => "-".to_string(),
+            _ => evicted.to_string(),
         };
-        let _ = writeln!(text, "{} {} {evicted}", event[0], event[1]);
+        let _ = writeln!(text, "{time} {page} {evicted} {what}");
     }
-    let _ = write!(text, "{}\npages", run.summary);
-    for page in &run.pages {
-        let _ = write!(text, " {page}");
+    let transfers = transfers(&run.events);
+    let _ = write!(text, "{} transfers {transfers}\npages", run.summary);
+    for frame in &run.frames {
+        let _ = write!(text, " {}", frame.page);
     }
     text.push('\n');
     text
