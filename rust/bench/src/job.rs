@@ -2,7 +2,7 @@
 
 use crate::traces::Trace;
 use std::hint::black_box;
-use types::Library;
+use types::{Frame, Library, NUMBERS_PER_EVENT};
 
 #[derive(Clone, Copy)]
 pub enum Job {
@@ -24,7 +24,7 @@ pub enum Job {
 /// between rounds: what is timed is the call alone.
 pub struct Buffers {
     out: Vec<u8>,
-    cache: Vec<u64>,
+    cache: Vec<Frame>,
     events: Vec<u64>,
 }
 
@@ -55,12 +55,12 @@ impl Job {
         let (bytes, cache, events) = match self {
             Job::Check => (0, 0, 0),
             Job::Join | Job::Reduce { .. } => (trace.file.len(), 0, 0),
-            Job::Replay { size, .. } => (0, *size, 3 * trace.items as usize),
+            Job::Replay { size, .. } => (0, *size, NUMBERS_PER_EVENT * trace.items as usize),
         };
         Buffers {
             out: vec![1; bytes],
             // Distinct, as a start's pages are.
-            cache: (1..=cache).collect(),
+            cache: (1..=cache).map(Frame::clean).collect(),
             events: vec![1; events],
         }
     }

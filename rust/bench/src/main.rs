@@ -22,7 +22,8 @@ Times the proved library against the reference, both optimised, on traces of
 1,000,000 items where no other number is told. Each figure is the median of
 several rounds in which the libraries take turns. Without a part, all of them.
 
-  reduce    check, join and reduce on three traces
+  reduce    check, join and reduce on three traces, each once without writes
+            and once with three writes in ten
   replay    replay on the same traces with caches of 1 to 4,096 pages; also
             against the reference with the hash of Rust's standard library
   growth    replay as the cache grows, on loops of hits alone and of fetches

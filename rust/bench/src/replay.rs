@@ -1,4 +1,4 @@
-//! Replays on three traces, against two counterparts.
+//! Replays on three traces, without writes and with, against two counterparts.
 
 use crate::job::Job;
 use crate::std_hash::StdHash;
@@ -14,7 +14,8 @@ pub fn run(rounds: usize) {
     println!("Replays of {ITEMS} items from an empty cache, median of {rounds} rounds, the");
     println!("three taking turns. Buffers are made once for each line and not cleared");
     println!("between rounds. Std: the reference with the hash of Rust's standard library");
-    println!("in its map. Ratio: proved time / reference time.");
+    println!("in its map. In the traces with writes three items in ten are, and the pages");
+    println!("are the same. Ratio: proved time / reference time.");
     table::head(Unit::Item, &BOTH);
     for trace in traces::all() {
         for size in SIZES {

@@ -3,7 +3,7 @@
 
 use reference::{Reference, replay_with};
 use std::hash::RandomState;
-use types::{Header, Library, Refusal, Summary};
+use types::{Frame, Header, Library, Refusal, Summary};
 
 pub struct StdHash;
 
@@ -30,7 +30,7 @@ impl Library for StdHash {
         &self,
         file: &[u8],
         size: u64,
-        cache: &mut [u64],
+        cache: &mut [Frame],
         resident: usize,
         events: &mut [u64],
     ) -> Result<Summary, (Refusal, u64)> {
