@@ -7,6 +7,7 @@ use crate::library::{Measured, check, join, reduce, replay};
 use crate::programs;
 use types::layout::whole;
 use types::limits::{LARGEST_CACHE, LARGEST_FILTER};
+use types::{Frame, NUMBERS_PER_EVENT};
 
 pub struct Figure {
     pub name: String,
@@ -96,11 +97,11 @@ pub fn of_replay() -> Result<Vec<Figure>, String> {
     let items = inputs::mixed();
     let places = LARGEST_CACHE as usize;
     let call = |file: &[u8], resident, room| {
-        let mut cache: Vec<u64> = (0..LARGEST_CACHE).collect();
+        let mut cache: Vec<Frame> = (0..LARGEST_CACHE).map(Frame::written).collect();
         let mut events = vec![0; room];
         replay(file, LARGEST_CACHE, &mut cache, resident, &mut events)
     };
-    let (file, room) = (whole(&items), 3 * items.len());
+    let (file, room) = (whole(&items), NUMBERS_PER_EVENT * items.len());
     let refused = [
         (4, call(&faulty(&items), 0, room)),
         (10, call(&file, places + 1, room)),

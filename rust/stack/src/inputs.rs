@@ -4,7 +4,7 @@
 use compare::buckets::{FILTER, Halves};
 use compare::hostile::{Order, Pool};
 use compare::{Random, traces};
-use types::layout::{ITEM_BYTES, ITEM_TAG, encode, whole};
+use types::layout::{ITEM_BYTES, WRITE_TAG, encode, whole};
 use types::{Header, Item};
 
 /// The most items that a program takes.
@@ -53,7 +53,7 @@ fn program_items() -> Vec<Item> {
 pub fn faulty(items: &[Item]) -> Vec<u8> {
     let mut file = whole(items);
     let tag = file.len() - ITEM_BYTES;
-    file[tag] = ITEM_TAG + 1;
+    file[tag] = WRITE_TAG + 1;
     file
 }
 

@@ -5,6 +5,7 @@
 use bindings as _;
 
 use crate::own_thread;
+use types::Frame;
 
 const ROW: usize = 8;
 
@@ -48,13 +49,13 @@ pub fn join(first: &[u8], second: &[u8], out: &mut [u8]) -> Measured {
 pub fn replay(
     file: &[u8],
     size: u64,
-    cache: &mut [u64],
+    frames: &mut [Frame],
     resident: usize,
     events: &mut [u64],
 ) -> Measured {
-    let ([file, file_length], [cache, cache_length]) = (lent(file), lent_mut(cache));
+    let ([file, file_length], [frames, frames_length]) = (lent(file), lent_mut(frames));
     let [events, events_length] = lent_mut(events);
-    let start = [file, file_length, size, cache, cache_length];
+    let start = [file, file_length, size, frames, frames_length];
     let arguments = [&start[..], &[resident as u64, events, events_length]].concat();
     // SAFETY: see `measured`.
     unsafe { measured(&raw const shkembruq_replay, &arguments) }

@@ -8,8 +8,9 @@ use stack::painted::PAINTED;
 /// What `shkembruq_reduce` may take in all, in either mode.
 const REDUCE: usize = 9 << 10;
 
-/// What `shkembruq_replay` may take in all, from any start.
-const REPLAY: usize = 128 << 10;
+/// What `shkembruq_replay` may take in all, from any start. With C-14 it has
+/// two more columns of its own, of 36 KiB together.
+const REPLAY: usize = 160 << 10;
 
 /// Nothing takes nothing, and nothing takes more than could be measured.
 fn told(figures: Result<Vec<Figure>, String>) -> Vec<Figure> {
@@ -33,7 +34,7 @@ fn reduce_keeps_to_nine_kibibytes() {
 }
 
 #[test]
-fn replay_keeps_to_128_kibibytes() {
+fn replay_keeps_to_160_kibibytes() {
     keeps_to(REPLAY, of_replay());
 }
 

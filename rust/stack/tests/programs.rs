@@ -1,16 +1,21 @@
-//! The programs `reduce` and `replay` do their work (of `replay` the number of
-//! lines is looked at), and the stack that they take is measured where they run
-//! without an emulator.
+//! The programs `reduce` and `replay` do their work, and the stack that they
+//! take is measured where they run without an emulator.
 
 use compare::report::say;
 use stack::inputs::for_programs;
 use stack::programs::written;
+use types::event::{CLEAN, NOTHING, WRITTEN};
 use types::layout::file_bytes;
 use types::limits::{LARGEST_CACHE, LARGEST_FILTER};
+use types::{Frame, NUMBERS_PER_EVENT};
 
 /// Settings of the largest filter in mode 2, and of the largest cache.
 const REDUCE: (&str, &[u8]) = ("reduce", &[17, 3, 0, 2, 0, 4]);
 const REPLAY: (&str, &[u8]) = ("replay", &[16, 2, 0, 0, 16]);
+
+/// A cache that is too small for the trace's pages, so that pages go.
+const SMALL_CACHE: u64 = 64;
+const SMALL_REPLAY: (&str, &[u8]) = ("replay", &[16, 2, 0, SMALL_CACHE as u8, 0]);
 
 /// A program's input: settings and the longest trace that it takes.
 fn input(settings: &[u8]) -> Vec<u8> {
@@ -36,16 +41,41 @@ fn reduce_writes_the_librarys_file() {
     assert_eq!(output(REDUCE), out);
 }
 
-/// A line for each fetch that the library finds, then the tally and the pages.
-#[test]
-fn replay_writes_a_line_for_each_fetch() {
-    let mut cache = vec![0; LARGEST_CACHE as usize];
+/// What the program should write: a line for each fetch that the library
+/// finds, then the tally and the pages. With it, the fourth numbers.
+fn replayed(size: u64) -> (String, Vec<u64>) {
     let file = for_programs();
-    let mut events = vec![0; 3 * file.len()];
-    let summary = bindings::replay(&file, LARGEST_CACHE, &mut cache, 0, &mut events);
-    let fetches = summary.expect("a replay").fetches as usize;
-    let output = String::from_utf8(output(REPLAY)).expect("text");
-    assert_eq!(output.lines().count(), fetches + 2);
+    let mut cache = vec![Frame::clean(0); size as usize];
+    let mut events = vec![0; NUMBERS_PER_EVENT * file.len()];
+    let summary = bindings::replay(&file, size, &mut cache, 0, &mut events).expect("a replay");
+    let events = &events.as_chunks::<NUMBERS_PER_EVENT>().0[..summary.fetches as usize];
+    let line = |[time, page, evicted, what]: &[u64; NUMBERS_PER_EVENT]| match *what {
+        NOTHING => format!("{time} {page} - {what}\n"),
+        _ => format!("{time} {page} {evicted} {what}\n"),
+    };
+    let fetches: String = events.iter().map(line).collect();
+    let pages = cache[..summary.resident as usize].iter();
+    let pages: String = pages.map(|frame| format!(" {}", frame.page)).collect();
+    let fourth = events.iter().map(|event| event[3]).collect();
+    (format!("{fetches}{summary}\npages{pages}\n"), fourth)
+}
+
+#[test]
+fn replay_writes_the_librarys_lines() {
+    for (size, program) in [(LARGEST_CACHE, REPLAY), (SMALL_CACHE, SMALL_REPLAY)] {
+        let output = String::from_utf8(output(program)).expect("text");
+        assert_eq!(output, replayed(size).0, "{size}");
+    }
+}
+
+/// Otherwise the lines would show little.
+#[test]
+fn the_small_cache_evicts_clean_and_written_pages() {
+    let (_, fourth) = replayed(SMALL_CACHE);
+    for what in [NOTHING, CLEAN, WRITTEN] {
+        let count = fourth.iter().filter(|number| **number == what).count();
+        assert!(count > 50, "{what}: {count}");
+    }
 }
 
 #[cfg(target_arch = "x86_64")]
