@@ -1,7 +1,7 @@
 #!/bin/sh
 # References of real programs. Records the memory references of three ordinary commands with valgrind's lackey tool and converts them to traces of pages of
-# 4 KiB: several files for each recording, since one holds 1,000,000 items. Reduces the files in both modes at several filter sizes, and compares every line
-# but the tally, whose number of items is another, of
+# 4 KiB, stores and modifies as writes: several files for each recording, since one holds 1,000,000 items. Reduces the files in both modes at several filter
+# sizes, and compares every line, of the tally only the transfers since its number of items is another, of
 # - the replay of each reduced file with that of the file it was made from;
 # - the replay of the reduced files' join with LRU on the whole recording, as `whole` does it, a program that has nothing of the proved library.
 # Prints a table for docs/RESULTS.md, and fails if any two differ. Needs valgrind, and the tools built (README.md). No name here has a space: lists of
@@ -16,7 +16,8 @@ cd "$work"
 recorded() { # NAME COMMAND..: the command's references, as traces of at most 1,000,000 items
     name=$1
     shift
-    valgrind --tool=lackey --trace-mem=yes --log-file="$name.log" "$@" >/dev/null
+    # On aarch64 an exclusive store after an exclusive load fails for as long as the tool writes its log between the two; the hint has both done in another way.
+    valgrind --sim-hints=fallback-llsc --tool=lackey --trace-mem=yes --log-file="$name.log" "$@" >/dev/null
     "$tool" convert --lackey "$name.log" -o "$name" >/dev/null
     rm "$name.log"
 }
@@ -35,8 +36,16 @@ nth() { # NUMBER WORD..: the word with this number, from 0; after the last comes
     echo "$1"
 }
 
-without_tally() { # COMMAND..: what it prints, without the tally; fails where the command does
-    "$@" >all && sed '/^items /d' all
+but_the_tally() { # COMMAND..: what it prints, of the tally only the transfers; fails where the command does
+    "$@" >all && sed 's/^items .* transfers /transfers /' all
+}
+
+fetch_lines() { # FILE: how many there are; after them come the transfers and the pages
+    echo $(($(wc -l <"$1") - 2))
+}
+
+written_lines() { # FILE: how many of its fetch lines tell of a written page
+    awk '/^[0-9]/ && $4 == 2' "$1" | wc -l
 }
 
 same() { # WHAT: fails unless the files one and two are the same
@@ -47,10 +56,10 @@ compare_part() { # FILE MODE FILTER OUT: reduces a file and compares its replays
     "$tool" reduce --mode "$2" --filter "$3" "$1" -o "$4" >row
     kept=$((kept + $(sed 's/.* items //' row))) references=$((references + $(sed 's/.* references \([0-9]*\) .*/\1/' row)))
     for cache in "$3" 4096; do
-        without_tally "$tool" replay --cache "$cache" "$1" >one
-        without_tally "$tool" replay --cache "$cache" "$4" >two
+        but_the_tally "$tool" replay --cache "$cache" "$1" >one
+        but_the_tally "$tool" replay --cache "$cache" "$4" >two
         same "$1 $2 $3 at cache size $cache"
-        of_files=$((of_files + 1)) file_fetches=$((file_fetches + $(wc -l <one) - 1))
+        of_files=$((of_files + 1)) file_fetches=$((file_fetches + $(fetch_lines one)))
     done
 }
 
@@ -70,16 +79,16 @@ join_all() { # FILE..: their join, the same bytes from the left and from the rig
 
 compare_join() { # NAME FILTER: compares the replays of the join with the whole recording's run
     for cache in "$2" $(($2 + $2 / 2)) 4096; do
-        [ -f "whole.$1.$cache" ] || without_tally "$whole" "$cache" $(parts "$1") >"whole.$1.$cache"
+        [ -f "whole.$1.$cache" ] || but_the_tally "$whole" "$cache" $(parts "$1") >"whole.$1.$cache"
         cp "whole.$1.$cache" one
-        without_tally "$tool" replay --cache "$cache" joined >two
+        but_the_tally "$tool" replay --cache "$cache" joined >two
         same "the join of $1 at cache size $cache"
-        of_joins=$((of_joins + 1)) whole_fetches=$((whole_fetches + $(wc -l <one) - 1))
+        of_joins=$((of_joins + 1)) whole_fetches=$((whole_fetches + $(fetch_lines one))) whole_written=$((whole_written + $(written_lines one)))
     done
 }
 
 compared() { # NAME MODES FILTERS: one row of the table; each file takes the next mode and filter
-    kept=0 references=0 files=0 largest=0 of_files=0 file_fetches=0 of_joins=0 whole_fetches=0 reduced=
+    kept=0 references=0 files=0 largest=0 of_files=0 file_fetches=0 of_joins=0 whole_fetches=0 whole_written=0 reduced=
     for part in $(parts "$1"); do
         mode=$(nth $files $2) filter=$(nth $files $3)
         compare_part "$part" "$mode" "$filter" "reduced.$files"
@@ -89,7 +98,7 @@ compared() { # NAME MODES FILTERS: one row of the table; each file takes the nex
     join_all $reduced
     compare_join "$1" "$largest"
     percent=$(awk "BEGIN { printf \"%.2f\", 100 * $kept / $references }")
-    echo "| \`$1\` | $2 | $3 | $files | $references | $kept | $percent | $of_files | $file_fetches | $of_joins | $whole_fetches |"
+    echo "| \`$1\` | $2 | $3 | $files | $references | $kept | $percent | $of_files | $file_fetches | $of_joins | $whole_fetches | $whole_written |"
 }
 
 awk 'BEGIN { for (i = 1; i <= 800; i++) print (i * 7919) % 10007, "line", i }' >text
@@ -97,8 +106,8 @@ recorded sort sort text
 recorded gzip gzip -c text
 recorded awk awk '{ s[$1 % 97] += $3 } END { for (k in s) print k, s[k] }' text
 
-echo '| command | mode | filter | files | references | kept | percent | files: replays | their fetch lines, all the same | join: replays | fetch lines of the whole recording, all the same |'
-echo '|---|---|---|---|---|---|---|---|---|---|---|'
+echo '| command | mode | filter | files | references | kept | percent | files: replays | their fetch lines, all the same | join: replays | fetch lines of the whole recording, all the same | written pages evicted there |'
+echo '|---|---|---|---|---|---|---|---|---|---|---|---|'
 for name in sort gzip awk; do
     for filter in 16 64 256 1024; do
         for mode in fastslim demand; do compared $name $mode "$filter"; done
