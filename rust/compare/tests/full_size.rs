@@ -30,7 +30,7 @@ fn items(count: u64) -> Vec<Item> {
 fn frame(page: u64) -> Frame {
     Frame {
         page,
-        written: page % 3 == 0,
+        written: page.is_multiple_of(3),
     }
 }
 

@@ -94,7 +94,7 @@ fn longer_than_a_file() {
         // Full from the start, of pages near and far.
         let frame = |place: u64| Frame {
             page: 7 * place,
-            written: place % 2 == 0,
+            written: place.is_multiple_of(2),
         };
         let start = Start {
             size,

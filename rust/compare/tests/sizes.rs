@@ -102,7 +102,7 @@ fn every_small_start() {
         let cache: Vec<Frame> = (0..4)
             .map(|digit| Frame {
                 page: pages[number >> (2 * digit) & 3],
-                written: number * 7 >> digit & 1 == 1,
+                written: (number * 7) >> digit & 1 == 1,
             })
             .collect();
         for size in 1..=5 {

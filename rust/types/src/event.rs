@@ -1,5 +1,5 @@
-//! What a replay writes of each fetch: time, page, evicted page, and what
-//! became of that.
+//! What a replay writes of each fetch: time, page, evicted page, and whether
+//! that was clean or written.
 
 use crate::Frame;
 use crate::limits::RESERVED_PAGE;
