@@ -81,11 +81,12 @@ impl FaultyReplay {
     }
 }
 
-/// A log and, beside it, which of its pages are written: what is wrong with a
-/// log is how it finds and keeps pages.
+/// A log and, beside it, which of its pages are written. The log knows pages
+/// alone: what can be wrong with their marks when it is packed is done here.
 struct Cached {
     log: Log,
     written: HashSet<u64>,
+    fault: Option<RecencyFault>,
 }
 
 impl Cached {
@@ -95,13 +96,14 @@ impl Cached {
         Some(Cached {
             log: Log::start(&pages, fault)?,
             written: written.map(|frame| frame.page).collect(),
+            fault,
         })
     }
 
     /// The event of an item, if it is a fetch.
     fn touch(&mut self, item: Item, size: usize) -> Option<[u64; NUMBERS_PER_EVENT]> {
-        let touch = self.log.touch(item.page, size);
-        let told = match touch {
+        let packings = self.log.met.packings.len();
+        let told = match self.log.touch(item.page, size) {
             Touch::Hit => None,
             Touch::Fetch { evicted } => {
                 let evicted = evicted.map(|page| Frame {
@@ -114,7 +116,22 @@ impl Cached {
         if item.written {
             self.written.insert(item.page);
         }
+        if self.log.met.packings.len() > packings {
+            self.spoil_marks();
+        }
         told
+    }
+
+    fn spoil_marks(&mut self) {
+        match self.fault {
+            Some(RecencyFault::PackingClearsMarks) => self.written.clear(),
+            Some(RecencyFault::PackingShiftsMarks) => {
+                let frames: Vec<Frame> = self.frames().collect();
+                let pairs = frames.windows(2).filter(|pair| pair[1].written);
+                self.written = pairs.map(|pair| pair[0].page).collect();
+            }
+            _ => {}
+        }
     }
 
     fn frames(&self) -> impl Iterator<Item = Frame> {

@@ -19,6 +19,10 @@ pub enum RecencyFault {
     PackingLeavesLinks,
     /// Neither heads nor links are made anew.
     PackingLeavesChains,
+    /// Pages that were written are clean from then on.
+    PackingClearsMarks,
+    /// Each page has the mark of the one used before it.
+    PackingShiftsMarks,
     /// The page that comes again counts twice.
     HitLeavesTheOldPlace,
     HitMarksThePlaceBefore,
@@ -61,7 +65,7 @@ pub enum RecencyFault {
 
 use RecencyFault::*;
 
-pub const ALL: [RecencyFault; 26] = [
+pub const ALL: [RecencyFault; 28] = [
     PackingKeepsADeadPlace,
     PackingDropsTheFirst,
     PackingDropsTheLast,
@@ -70,6 +74,8 @@ pub const ALL: [RecencyFault; 26] = [
     PackingLeavesHeads,
     PackingLeavesLinks,
     PackingLeavesChains,
+    PackingClearsMarks,
+    PackingShiftsMarks,
     HitLeavesTheOldPlace,
     HitMarksThePlaceBefore,
     AppendLeavesTheDeadByte,

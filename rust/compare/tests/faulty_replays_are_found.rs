@@ -16,7 +16,7 @@ const CASES: u64 = 150;
 const PLAIN_CASES: u64 = 400;
 
 /// What shows only where the log is packed.
-const ONLY_IF_PACKED: [RecencyFault; 9] = [
+const ONLY_IF_PACKED: [RecencyFault; 11] = [
     RecencyFault::PackingKeepsADeadPlace,
     RecencyFault::PackingDropsTheFirst,
     RecencyFault::PackingDropsTheLast,
@@ -25,6 +25,8 @@ const ONLY_IF_PACKED: [RecencyFault; 9] = [
     RecencyFault::PackingLeavesHeads,
     RecencyFault::PackingLeavesLinks,
     RecencyFault::PackingLeavesChains,
+    RecencyFault::PackingClearsMarks,
+    RecencyFault::PackingShiftsMarks,
     RecencyFault::AppendLeavesTheDeadByte,
 ];
 
