@@ -19,10 +19,10 @@ use Rattle.trace.proofs.Items.{from-turn, from-none}
 use Rattle.trace.proofs.Output.{Wrote, wrote-none, wrote-one, wrote-then, wrote-long}
 use Rattle.slim.specs.Epochs.{pages, touched}
 use Rattle.slim.specs.Keep.{isFirst, isLast, keeps, kept, owe, lost}
-use Rattle.slim.specs.Passes.{lastPlace, Noted, CanKeep, keptThere, Owes, Flags}
+use Rattle.slim.specs.Passes.{lastPlace, Noted, NoneNoted, flagsSet, CanKeep, keptThere, Owes, Flags}
 use Rattle.slim.specs.declared.Mode.the-variants.{Demand}
 use Rattle.slim.proofs.Kept.{first-kept, last-kept}
-use Rattle.slim.proofs.Flags.{place-taken, owes-new, owes-more}
+use Rattle.slim.proofs.Flags.{place-taken, owes-new, owes-more, flags-new, flags-more, flags-most}
 use Rattle.pages.proofs.Table.{has-taken, has-within, place-within}
 use Rattle.filter.specs.Filter.{Notes, FirstNoted}
 use Rattle.filter.proofs.Noting.{notes-long, notes-told}
@@ -157,10 +157,16 @@ module _ {F last : List ℕ} {k c : ℕ} {x : Item} {v : List Item} (l : Left F 
         turn (x ∷ []) (omega (arith, length-new (x .page) (take c F) n, length-take-le c F (l .before))) (λ u. rw kk)
         (λ owed o. rw kk (owes-new o (x .page) n (length-take-le c F (l .before)) g))
 
+-- ---- items that are known not to be noted
+
+-- Up to an item that lies ahead none is noted: it is the first that may be.
+pub still-none : {items : List ℕ} {k skip : ℕ} → NoneNoted items k skip → k < skip → FirstNoted items k skip
+still-none n o = record { from = omega arith; none = n .none; here = λ e. absurd (omega arith) }
+
 -- ---- the loop: up to item k the stretch is passed, and m items are in the output
 
 -- What is kept so far is written behind what was done, and with what is kept of the rest it is all.
-pub record Keeping (file : List ℕ) (from end had done : ℕ) (filter last : List ℕ) (held : ℕ) (flags₀ out₀ : List ℕ) (k c m skip : ℕ) (flags out : List ℕ) : Type 0 where
+pub record Keeping (file : List ℕ) (from end had done : ℕ) (filter last : List ℕ) (held : ℕ) (flags₀ out₀ : List ℕ) (k c m n skip : ℕ) (flags out : List ℕ) : Type 0 where
   pub within : k ≤ end
   pub left : Left filter last k c (itemsFrom file k (end - k))
   pub so-far : List Item
@@ -174,11 +180,12 @@ pub record Keeping (file : List ℕ) (from end had done : ℕ) (filter last : Li
   pub flags-same : length flags ≡ length flags₀
   pub owing : (owed : List ℕ) → Owes (take had filter) flags₀ owed
       → Owing filter flags c (itemsFrom file k (end - k)) (lost Demand (take had filter) owed (itemsFrom file from (end - from)))
-  pub skipped : (i : ℕ) → k ≤ i → i < skip → has i (take held last) ≡ false
+  pub counted : n ≡ flagsSet c flags
+  pub skipped : NoneNoted (take held last) k skip
 
 -- Nothing is kept yet.
-pub keeping-none : {file : List ℕ} {from end had done : ℕ} {filter last : List ℕ} (held : ℕ) {flags out : List ℕ} → CanKeep file from end had done filter last flags out
-    → Keeping file from end had done filter last held flags out from had done from flags out
+pub keeping-none : {file : List ℕ} {from end had done owing : ℕ} {filter last : List ℕ} (held : ℕ) {flags out : List ℕ}
+    → CanKeep file from end had done owing filter last flags out → Keeping file from end had done filter last held flags out from had done owing from flags out
 keeping-none {done = done} held {out = out} p = record {
   within = p .within;
   left = record { before = p .before; filter-is = p .filter-is; last-noted = p .last-noted };
@@ -192,14 +199,19 @@ keeping-none {done = done} held {out = out} p = record {
   flags-long = p .flags-long;
   flags-same = refl;
   owing = λ owed o. record { now-owed = owed; owes = o; then-owed = refl };
-  skipped = λ i a b. absurd (omega arith);
+  counted = p .owing-is;
+  skipped = record { none = λ i a b. absurd (omega arith) };
 }
 
-module _ {file : List ℕ} {from end had done : ℕ} {filter last : List ℕ} {held : ℕ} {flags₀ out₀ : List ℕ} {k c m skip : ℕ} {flags out : List ℕ}
-    (r : Keeping file from end had done filter last held flags₀ out₀ k c m skip flags out) where
+module _ {file : List ℕ} {from end had done : ℕ} {filter last : List ℕ} {held : ℕ} {flags₀ out₀ : List ℕ} {k c m n skip : ℕ} {flags out : List ℕ}
+    (r : Keeping file from end had done filter last held flags₀ out₀ k c m n skip flags out) where
   -- There is a flag for each place.
   pub keeping-long : Notes file last held filter → held ≤ length flags
-  keeping-long n = omega (arith, notes-long n, r .flags-long)
+  keeping-long f = omega (arith, notes-long f, r .flags-long)
+
+  -- No more pages are owed a write than are held.
+  pub keeping-owing : Notes file last held filter → n ≤ held
+  keeping-owing f = omega (arith, notes-long f, r .left .before, r .counted, flags-most c flags)
 
   module _ (h : k < end) {x : Item} (e : x ≡ itemAt file k) where
     -- What is left is the item that was read, and what is left after it.
@@ -210,11 +222,10 @@ module _ {file : List ℕ} {from end had done : ℕ} {filter last : List ℕ} {h
     here = rw rest at (r .left)
 
     -- A turn is done that keeps the items a.
-    passed : {c′ m′ skip′ : ℕ} {a : List Item} {flags′ out′ : List ℕ} → Turn filter last flags k c x (itemsFrom file (k + 1) (end - (k + 1))) c′ a flags′
-        → Wrote m a out out′ → m′ ≡ m + length a → length a ≤ 1 → length flags′ ≡ length flags
-        → ((i : ℕ) → k + 1 ≤ i → i < skip′ → has i (take held last) ≡ false)
-        → Keeping file from end had done filter last held flags₀ out₀ (k + 1) c′ m′ skip′ flags′ out′
-    passed {a = a} t w n s f u = record {
+    passed : {c′ m′ n′ skip′ : ℕ} {a : List Item} {flags′ out′ : List ℕ} → Turn filter last flags k c x (itemsFrom file (k + 1) (end - (k + 1))) c′ a flags′
+        → Wrote m a out out′ → m′ ≡ m + length a → length a ≤ 1 → length flags′ ≡ length flags → n′ ≡ flagsSet c′ flags′ → NoneNoted (take held last) (k + 1) skip′
+        → Keeping file from end had done filter last held flags₀ out₀ (k + 1) c′ m′ n′ skip′ flags′ out′
+    passed {a = a} t w e s f g u = record {
       within = omega arith;
       left = t .next;
       so-far = r .so-far ++ a;
@@ -230,12 +241,9 @@ module _ {file : List ℕ} {from end had done : ℕ} {filter last : List ℕ} {h
           let b = r .owing owed o in
           let z = t .owes (b .now-owed) (b .owes) in
           record { now-owed = z .now-owed; owes = z .owes; then-owed = z .then-owed ∙ (rw rest at (b .then-owed)) };
+      counted = g;
       skipped = u;
     }
-
-    -- What is not noted from k on is not from k + 1 on.
-    later : (i : ℕ) → k + 1 ≤ i → i < skip → has i (take held last) ≡ false
-    later i a b = r .skipped i (omega arith) b
 
     -- The item's page is in the filter.
     pub keeping-has : has (x .page) filter ≡ true
@@ -248,11 +256,13 @@ module _ {file : List ℕ} {from end had done : ℕ} {filter last : List ℕ} {h
 
       -- The item is the first of its page, and is written.
       pub keeping-new : b ≡ true → {out′ : List ℕ} → out′ ≡ sets out (23 + 19 * m) (encodeItem x)
-          → Keeping file from end had done filter last held flags₀ out₀ (k + 1) (c + 1) (m + 1) skip (set flags c 0) out′
+          → Keeping file from end had done filter last held flags₀ out₀ (k + 1) (c + 1) (m + 1) n skip (set flags c 0) out′
       keeping-new t w =
-          passed (turn-new here refl (omega (arith, same _ c (sym q ∙ t))) (keeping-flag t)) (wrote-one w) (omega arith) (omega arith) (length-set flags c 0) later
+          let l = keeping-flag t in
+          passed (turn-new here refl (omega (arith, same _ c (sym q ∙ t))) l) (wrote-one w) (omega arith) (omega arith) (length-set flags c 0)
+          (r .counted ∙ sym (flags-new c flags l)) (record { none = λ i a b. r .skipped .none i (omega arith) b })
 
-      module _ (t : b ≡ false) (n : Notes file last held filter) where
+      module _ (t : b ≡ false) (f : Notes file last held filter) {skip′ : ℕ} (g : FirstNoted (take held last) k skip′) where
         before : place (x .page) filter < c
         before =
             let w = near here .0 in
@@ -262,51 +272,34 @@ module _ {file : List ℕ} {from end had done : ℕ} {filter last : List ℕ} {h
         -- What is noted at the page's place tells whether it is the last.
         told : eqb (getD last (place (x .page) filter) 0) k ≡ has k (take held last)
         told =
-            let w : place (x .page) filter < held = omega (arith, before, here .before, notes-long n) in
-            rw e (notes-told n k (rw e at w))
+            let w : place (x .page) filter < held = omega (arith, before, here .before, notes-long f) in
+            rw e (notes-told f k (rw e at w))
 
-        -- An item that is not noted is dropped: a read,
-        skips : has k (take held last) ≡ false → x .written ≡ false → {skip′ : ℕ} → ((i : ℕ) → k + 1 ≤ i → i < skip′ → has i (take held last) ≡ false)
-            → Keeping file from end had done filter last held flags₀ out₀ (k + 1) c m skip′ flags out
-        skips y z u = passed (turn-skip here refl before (eqb-false _ k (told ∙ y)) z) (wrote-none m out) (omega arith) (omega arith) refl u
+        onward : NoneNoted (take held last) (k + 1) skip′
+        onward = record { none = λ i a b. g .none i (omega arith) b }
 
-        -- or a write, which its page is owed.
-        drops : has k (take held last) ≡ false → x .written ≡ true → {skip′ : ℕ} → ((i : ℕ) → k + 1 ≤ i → i < skip′ → has i (take held last) ≡ false)
-            → {flags′ : List ℕ} → flags′ ≡ set flags (place (x .page) filter) 1
-            → Keeping file from end had done filter last held flags₀ out₀ (k + 1) c m skip′ flags′ out
-        drops y z u g =
-            let l : place (x .page) filter < length flags = omega (arith, before, here .before, r .flags-long) in
-            let t = turn-drop here refl before (eqb-false _ k (told ∙ y)) z l in
-            rw g (passed t (wrote-none m out) (omega arith) (omega arith) (length-set flags (place (x .page) filter) 1) u)
+        -- The item is the last of its page, and is written.
+        pub keeping-last : skip′ ≡ k → {out′ : List ℕ} → out′ ≡ sets out (23 + 19 * m) (encodeItem x)
+            → Keeping file from end had done filter last held flags₀ out₀ (k + 1) c (m + 1) n skip′ flags out′
+        keeping-last d w = passed (turn-last here refl before (same _ k (told ∙ g .here d))) (wrote-one w) (omega arith) (omega arith) refl (r .counted) onward
 
-        module _ (o : k < skip) where
-          -- It is known to be neither the first nor the last: a read,
-          pub keeping-known : x .written ≡ false → Keeping file from end had done filter last held flags₀ out₀ (k + 1) c m skip flags out
-          keeping-known z = skips (r .skipped k (omega arith) o) z later
+        module _ (d : skip′ ≡ k → ⊥) where
+          other : getD last (place (x .page) filter) 0 ≡ k → ⊥
+          other = eqb-false _ k (told ∙ g .none k (omega arith) (first-after g d))
 
-          -- or a write,
-          pub keeping-known-write : x .written ≡ true → {flags′ : List ℕ} → flags′ ≡ set flags (place (x .page) filter) 1
-              → Keeping file from end had done filter last held flags₀ out₀ (k + 1) c m skip flags′ out
-          keeping-known-write z g = drops (r .skipped k (omega arith) o) z later g
+          -- It is neither the first nor the last: a read,
+          pub keeping-skip : x .written ≡ false → Keeping file from end had done filter last held flags₀ out₀ (k + 1) c m n skip′ flags out
+          keeping-skip z = passed (turn-skip here refl before other z) (wrote-none m out) (omega arith) (omega arith) refl (r .counted) onward
 
-        module _ {skip′ : ℕ} (f : FirstNoted (take held last) k skip′) where
-          onward : (i : ℕ) → k + 1 ≤ i → i < skip′ → has i (take held last) ≡ false
-          onward i a b = f .none i (omega arith) b
-
-          module _ (d : skip′ ≡ k → ⊥) where
-            -- or is found to be neither: a read,
-            pub keeping-skip : x .written ≡ false → Keeping file from end had done filter last held flags₀ out₀ (k + 1) c m skip′ flags out
-            keeping-skip z = skips (f .none k (omega arith) (first-after f d)) z onward
-
-            -- or a write,
-            pub keeping-skip-write : x .written ≡ true → {flags′ : List ℕ} → flags′ ≡ set flags (place (x .page) filter) 1
-                → Keeping file from end had done filter last held flags₀ out₀ (k + 1) c m skip′ flags′ out
-            keeping-skip-write z g = drops (f .none k (omega arith) (first-after f d)) z onward g
-
-          -- or is the last of its page, and is written.
-          pub keeping-last : skip′ ≡ k → {out′ : List ℕ} → out′ ≡ sets out (23 + 19 * m) (encodeItem x)
-              → Keeping file from end had done filter last held flags₀ out₀ (k + 1) c (m + 1) skip′ flags out′
-          keeping-last d w = passed (turn-last here refl before (same _ k (told ∙ f .here d))) (wrote-one w) (omega arith) (omega arith) refl onward
+          -- or a write, which its page is owed.
+          pub keeping-drop : x .written ≡ true → {n′ : ℕ} → n′ ≡ cond (eqb (getD flags (place (x .page) filter) 0) 1) n (n + 1)
+              → {flags′ : List ℕ} → flags′ ≡ set flags (place (x .page) filter) 1
+              → Keeping file from end had done filter last held flags₀ out₀ (k + 1) c m n′ skip′ flags′ out
+          keeping-drop z u v =
+              let l : place (x .page) filter < length flags = omega (arith, before, here .before, r .flags-long) in
+              let more = flags-more c flags (place (x .page) filter) before l in
+              let now = u ∙ sym (rw (← r .counted) at more) in
+              rw v (passed (turn-drop here refl before other z l) (wrote-none m out) (omega arith) (omega arith) (length-set flags (place (x .page) filter) 1) now onward)
 
   module _ (h : end ≤ k) where
     -- What is kept so far is all.
@@ -322,13 +315,18 @@ module _ {file : List ℕ} {from end had done : ℕ} {filter last : List ℕ} {h
     pub keeping-bytes : out ≡ sets out₀ (23 + 19 * done) (encodeItems (keptThere file from end had filter))
     keeping-bytes = rw whole at (r .wrote .bytes-are)
 
+    passed-all : filter ≡ take c filter
+    unfolding touched
+    passed-all = rw (from-none file h) at (r .left .filter-is)
+
     -- The filter is passed, and the flags say what is owed.
-    pub keeping-flags : Flags file from end had filter flags₀ flags
+    pub keeping-flags : Flags file from end had filter flags₀ flags n
     unfolding lost touched
     keeping-flags = record {
+      count = r .counted ∙ ap (λ (c : ℕ). flagsSet c flags) (sym (length-take-le c filter (r .left .before)) ∙ ap length (sym passed-all));
       owes = λ owed o.
           let b = r .owing owed o in
-          let f : filter ≡ take c filter = rw (from-none file h) at (r .left .filter-is) in
+          let f = passed-all in
           let a : b .now-owed ≡ lost Demand (take had filter) owed (itemsFrom file from (end - from)) = rw (from-none file h) at (b .then-owed) in
           let g : Owes filter flags (b .now-owed) = rw (← f) at (b .owes) in
           rw (← a) g;

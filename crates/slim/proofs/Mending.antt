@@ -70,12 +70,12 @@ pub record Mending (filter flags₀ : List ℕ) (held from to : ℕ) (out₀ fla
   pub settling : (old : List ℕ) (u : List Item) (owed : List ℕ) → Stand filter flags₀ from to out₀ old u owed → Settling filter flags out from k old u owed
 
 -- Nothing is settled yet.
-pub mending-none : (filter flags : List ℕ) (from to held : ℕ) (out : List ℕ) → length filter ≡ held → CanMend from to held out flags
-    → {left : ℕ} → left ≡ flagsSet held flags → Mending filter flags held from to out flags out to left
+pub mending-none : (filter flags : List ℕ) (from to held owing : ℕ) (out : List ℕ) → length filter ≡ held → CanMend from to held owing out flags
+    → Mending filter flags held from to out flags out to owing
 unfolding has pages settled
-mending-none filter flags from to held out l can c = record {
+mending-none filter flags from to held owing out l can = record {
   long = l;
-  left-is = c;
+  left-is = can .owing-is;
   begins = can .within;
   ends = omega arith;
   room = can .room;
@@ -253,3 +253,8 @@ module _ {filter flags₀ : List ℕ} {held from to : ℕ} {out₀ flags out : L
               (λ c. rw (same p (x .page) c, eqb-self (x .page)) n)
               (λ c. rw c (t .flagged p g));
         })
+
+-- Where nothing is owed all is as it should be.
+pub mending-quiet : (filter flags : List ℕ) (from to held owing : ℕ) (out : List ℕ) → length filter ≡ held → CanMend from to held owing out flags → owing ≡ 0
+    → Mended filter flags from to out out
+mending-quiet filter flags from to held owing out l can z = mending-stop (mending-none filter flags from to held owing out l can) z

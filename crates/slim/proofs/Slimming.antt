@@ -22,7 +22,7 @@ use Rattle.trace.proofs.Items.{length-from, from-turn, from-none, from-split}
 use Rattle.trace.proofs.Output.{Wrote, wrote-none, wrote-then, wrote-long}
 use Rattle.slim.specs.Epochs.{pages, touched, cut}
 use Rattle.slim.specs.Keep.{keeps, kept, reduce, lost, settled}
-use Rattle.slim.specs.Passes.{limit, CanLook, Looked, Within, CanKeep, keptThere, Owes, Flags, CanMend, Fit, Stand, Mended, CanSlim}
+use Rattle.slim.specs.Passes.{limit, CanLook, Looked, Within, CanKeep, keptThere, flagsSet, Owes, Flags, CanMend, Fit, Stand, Mended, CanSlim}
 use Rattle.slim.specs.declared.Mode.{Mode}
 use Rattle.slim.specs.declared.Mode.the-variants.{FastSlim, Demand}
 use Rattle.slim.specs.declared.Reach.{Reach}
@@ -62,7 +62,7 @@ append-fit (i ∷ a) b f g = (f .0, f .1, append-fit a b (f .2) g)
 -- Before the stretch that begins at item i: the filter holds `held` pages, and m items are kept and written. Those before item `begun` are of the epochs
 -- before, and are settled; the others, `here`, are of this one, of whose pages those `owing` are owed a write.
 pub record Slimming (file : List ℕ) (n : ℕ) (mode : Mode) (size : ℕ) (last₀ heads₀ next₀ owed₀ out₀ last heads next owed out : List ℕ)
-    (i held base begun m : ℕ) : Type 0 where
+    (i held base begun m left : ℕ) : Type 0 where
   pub can : CanSlim file n size last₀ heads₀ next₀ owed₀ out₀
   pub within : i ≤ n
   pub holds : held ≤ size
@@ -85,12 +85,13 @@ pub record Slimming (file : List ℕ) (n : ℕ) (mode : Mode) (size : ℕ) (last
   pub fit : Fit here
   pub known : (p : ℕ) → has p (pages here) ≡ true → has p (pagesIn file last held) ≡ true
   pub owes : Owes (pagesIn file last held) owed owing
+  pub left-is : left ≡ flagsSet held owed
   pub all : done ++ reduceFrom mode size (pagesIn file last held) owing here (itemsFrom file i (n - i)) ≡ reduce mode size (itemsFrom file 0 n)
 
 -- Nothing is done yet.
 pub slimming-none : (file : List ℕ) (n : ℕ) (mode : Mode) (size : ℕ) (last heads next owed out : List ℕ) → CanSlim file n size last heads next owed out
-    → Slimming file n mode size last heads next owed out last heads next owed out 0 0 0 0 0
-unfolding pagesOf has pages
+    → Slimming file n mode size last heads next owed out last heads next owed out 0 0 0 0 0 0
+unfolding pagesOf has pages flagsSet
 slimming-none file n mode size last heads next owed out c = record {
   can = c;
   within = omega arith;
@@ -114,6 +115,7 @@ slimming-none file n mode size last heads next owed out c = record {
   fit = tt;
   known = λ p h. absurd (false≢true h);
   owes = owes-none owed;
+  left-is = refl;
   all = rw (sub-zero, reduce-start mode size (itemsFrom file 0 n));
 }
 
@@ -126,8 +128,8 @@ unfolding limit
 limit-within Demand B held seen i t e h r = (h, omega arith)
 limit-within FastSlim B held seen i t e h r = (omega arith, omega arith)
 
-module _ {file : List ℕ} {n : ℕ} {mode : Mode} {size : ℕ} {last₀ heads₀ next₀ owed₀ out₀ last heads next owed out : List ℕ} {i held base begun m : ℕ}
-    (s : Slimming file n mode size last₀ heads₀ next₀ owed₀ out₀ last heads next owed out i held base begun m) (l : i < n) where
+module _ {file : List ℕ} {n : ℕ} {mode : Mode} {size : ℕ} {last₀ heads₀ next₀ owed₀ out₀ last heads next owed out : List ℕ} {i held base begun m left : ℕ}
+    (s : Slimming file n mode size last₀ heads₀ next₀ owed₀ out₀ last heads next owed out i held base begun m left) (l : i < n) where
   seen-long : length (pagesIn file last held) ≡ held
   seen-long = notes-long (s .filter .notes)
 
@@ -165,7 +167,7 @@ module _ {file : List ℕ} {n : ℕ} {mode : Mode} {size : ℕ} {last₀ heads�
       held-long = notes-long (slimming-filter .notes)
 
       -- and what it notes.
-      pub slimming-keep : CanKeep file i (r .end) held m (pagesIn file last′ (r .held)) last′ owed out
+      pub slimming-keep : CanKeep file i (r .end) held m left (pagesIn file last′ (r .held)) last′ owed out
       slimming-keep =
           let F = pagesIn file last′ (r .held) in
           let t = itemsFrom file i (r .end - i) in
@@ -177,6 +179,7 @@ module _ {file : List ℕ} {n : ℕ} {mode : Mode} {size : ℕ} {last₀ heads�
             filter-is = rw (← seen-long, filter-begins F (pagesIn file last held) t filter-is) filter-is;
             notes = omega (arith, held-long, k .filter .notes .within);
             flags-long = omega (arith, held-long, s .owed-long, s .can .flags);
+            owing-is = s .left-is;
             last-noted = rw filter-is (k .last-noted);
             room = omega (arith, s .out-long);
           }
@@ -205,9 +208,9 @@ module _ {file : List ℕ} {n : ℕ} {mode : Mode} {size : ℕ} {last₀ heads�
           omega arith
 
       -- What is kept of the stretch, what is owed, and the filter after it.
-      module _ {m′ : ℕ} {owed′ out′ : List ℕ} (c : m′ ≡ m + length (keptThere file i (r .end) held (pagesIn file last′ (r .held))))
+      module _ {m′ left′ : ℕ} {owed′ out′ : List ℕ} (c : m′ ≡ m + length (keptThere file i (r .end) held (pagesIn file last′ (r .held))))
           (o : out′ ≡ sets out (23 + 19 * m) (encodeItems (keptThere file i (r .end) held (pagesIn file last′ (r .held)))))
-          (g : Flags file i (r .end) held (pagesIn file last′ (r .held)) owed owed′) (ol : length owed′ ≡ length owed) where
+          (g : Flags file i (r .end) held (pagesIn file last′ (r .held)) owed owed′ left′) (ol : length owed′ ≡ length owed) where
         begins : take held (pagesIn file last′ (r .held)) ≡ pagesIn file last held
         begins =
             let F = pagesIn file last′ (r .held) in
@@ -270,13 +273,17 @@ module _ {file : List ℕ} {n : ℕ} {mode : Mode} {size : ℕ} {last₀ heads�
         now-stand : Stand (pagesIn file last′ (r .held)) owed′ begun m′ out′ (s .mid) now-here now-owing
         now-stand = record { wrote = now-wrote .bytes-are; count = now-count; fit = now-fit; known = now-known; owes = now-owes }
 
-        pub slimming-mend : CanMend begun m′ (r .held) out′ owed′
+        now-left : left′ ≡ flagsSet (r .held) owed′
+        now-left = rw held-long at (g .count)
+
+        pub slimming-mend : CanMend begun m′ (r .held) left′ out′ owed′
         slimming-mend =
             let b = bounds in
             record {
               within = omega (arith, now-count);
               room = omega (arith, now-few, s .can .fits, wrote-long now-wrote, wrote-long (s .wrote-done), w .ends);
               flags-long = omega (arith, s .owed-long, s .can .flags);
+              owing-is = now-left;
             }
 
         now-ready : Ready mode size (emptied size (pagesIn file last′ (r .held))) (itemsFrom file (r .end) (n - r .end))
@@ -288,8 +295,8 @@ module _ {file : List ℕ} {n : ℕ} {mode : Mode} {size : ℕ} {last₀ heads�
         -- The filter is full: the epoch is mended, and the filter emptied.
         pub slimming-full : r .held ≡ size → {owed″ out″ : List ℕ} → Mended (pagesIn file last′ (r .held)) owed′ begun m′ out′ out″ → length owed″ ≡ length owed′
             → {base′ : ℕ} {heads″ : List ℕ} → Holds file last′ 0 base′ heads″ next′ [] → length heads″ ≡ length heads′
-            → Slimming file n mode size last₀ heads₀ next₀ owed₀ out₀ last′ heads″ next′ owed″ out″ (r .end) 0 base′ m′ m′
-        unfolding pagesOf has pages
+            → Slimming file n mode size last₀ heads₀ next₀ owed₀ out₀ last′ heads″ next′ owed″ out″ (r .end) 0 base′ m′ m′ 0
+        unfolding pagesOf has pages flagsSet
         slimming-full f {owed″} {out″} me ol′ a hl′ =
             let F = pagesIn file last′ (r .held) in
             let wr : Wrote 0 (s .done ++ settled now-owing now-here) out₀ out″ =
@@ -319,12 +326,13 @@ module _ {file : List ℕ} {n : ℕ} {mode : Mode} {size : ℕ} {last₀ heads�
               fit = tt;
               known = λ p h. absurd (false≢true h);
               owes = owes-none owed″;
+              left-is = refl;
               all = rw (append-assoc, ← full) now-all;
             }
 
         -- It is not, and goes on.
         pub slimming-else : (r .held ≡ size → ⊥)
-            → Slimming file n mode size last₀ heads₀ next₀ owed₀ out₀ last′ heads′ next′ owed′ out′ (r .end) (r .held) base begun m′
+            → Slimming file n mode size last₀ heads₀ next₀ owed₀ out₀ last′ heads′ next′ owed′ out′ (r .end) (r .held) base begun m′ left′
         slimming-else f =
             let b = bounds in
             record {
@@ -350,19 +358,21 @@ module _ {file : List ℕ} {n : ℕ} {mode : Mode} {size : ℕ} {last₀ heads�
               fit = now-fit;
               known = now-known;
               owes = now-owes;
+              left-is = now-left;
               all = now-all;
             }
 
 -- ---- all stretches are done
 
-module _ {file : List ℕ} {n : ℕ} {mode : Mode} {size : ℕ} {last₀ heads₀ next₀ owed₀ out₀ last heads next owed out : List ℕ} {i held base begun m : ℕ}
-    (s : Slimming file n mode size last₀ heads₀ next₀ owed₀ out₀ last heads next owed out i held base begun m) (l : n ≤ i) where
+module _ {file : List ℕ} {n : ℕ} {mode : Mode} {size : ℕ} {last₀ heads₀ next₀ owed₀ out₀ last heads next owed out : List ℕ} {i held base begun m left : ℕ}
+    (s : Slimming file n mode size last₀ heads₀ next₀ owed₀ out₀ last heads next owed out i held base begun m left) (l : n ≤ i) where
   -- The last epoch's items may be mended.
-  pub ended-mend : CanMend begun m held out owed
+  pub ended-mend : CanMend begun m held left out owed
   ended-mend = record {
     within = omega (arith, s .count);
     room = omega (arith, s .few, s .within, s .can .fits, s .out-long);
     flags-long = omega (arith, s .owed-long, s .can .flags, s .holds);
+    owing-is = s .left-is;
   }
 
   all-kept : s .done ++ settled (s .owing) (s .here) ≡ reduce mode size (itemsFrom file 0 n)

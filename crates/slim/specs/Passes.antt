@@ -56,14 +56,24 @@ pub record Within (n from most : ℕ) (r : Reach) : Type 0 where
 
 -- ---- the second pass
 
--- The stretch from item `from` up to item `end`, where the filter had `had` pages before it.
-pub record CanKeep (file : List ℕ) (from end had done : ℕ) (filter last flags out : List ℕ) : Type 0 where
+-- From item k up to item `skip` none is one of these.
+pub record NoneNoted (items : List ℕ) (k skip : ℕ) : Type 0 where
+  pub none : (i : ℕ) → k ≤ i → i < skip → has i items ≡ false
+
+-- How many of the first c flags are set.
+unfoldable pub flagsSet : ℕ → List ℕ → ℕ
+flagsSet zero flags = 0
+flagsSet (suc j) flags = cond (eqb (getD flags j 0) 1) (suc (flagsSet j flags)) (flagsSet j flags)
+
+-- The stretch from item `from` up to item `end`, where the filter had `had` pages before it, of which `owing` are flagged.
+pub record CanKeep (file : List ℕ) (from end had done owing : ℕ) (filter last flags out : List ℕ) : Type 0 where
   pub file-long : 23 + 19 * end ≤ length file
   pub within : from ≤ end
   pub before : had ≤ length filter
   pub filter-is : filter ≡ touched (take had filter) (itemsFrom file from (end - from))
   pub notes : length filter ≤ length last
   pub flags-long : length filter ≤ length flags
+  pub owing-is : owing ≡ flagsSet had flags
   pub last-noted : Noted from (itemsFrom file from (end - from)) filter last
   pub room : 23 + 19 * (done + (end - from)) ≤ length out
 
@@ -76,23 +86,20 @@ pub record Owes (filter flags owed : List ℕ) : Type 0 where
   pub flagged : (p : ℕ) → has p filter ≡ true → eqb (getD flags (place p filter) 0) 1 ≡ has p owed
   pub among : (p : ℕ) → has p filter ≡ false → has p owed ≡ false
 
--- The flags after the stretch, whatever was owed before it.
-pub record Flags (file : List ℕ) (from end had : ℕ) (filter flags flags′ : List ℕ) : Type 0 where
+-- The flags after the stretch, whatever was owed before it, and how many of them are set.
+pub record Flags (file : List ℕ) (from end had : ℕ) (filter flags flags′ : List ℕ) (owing : ℕ) : Type 0 where
+  pub count : owing ≡ flagsSet (length filter) flags′
   pub owes : (owed : List ℕ) → Owes (take had filter) flags owed
       → Owes filter flags′ (lost Demand (take had filter) owed (itemsFrom file from (end - from)))
 
 -- ---- back over an epoch
 
--- How many of the first c flags are set.
-unfoldable pub flagsSet : ℕ → List ℕ → ℕ
-flagsSet zero flags = 0
-flagsSet (suc j) flags = cond (eqb (getD flags j 0) 1) (suc (flagsSet j flags)) (flagsSet j flags)
-
--- The items of the epoch are in the output from item `from` up to item `to`, and there is a flag for each of the `held` places.
-pub record CanMend (from to held : ℕ) (out flags : List ℕ) : Type 0 where
+-- The items of the epoch are in the output from item `from` up to item `to`, and of the flags of the `held` places `owing` are set.
+pub record CanMend (from to held owing : ℕ) (out flags : List ℕ) : Type 0 where
   pub within : from ≤ to
   pub room : 23 + 19 * to ≤ length out
   pub flags-long : held ≤ length flags
+  pub owing-is : owing ≡ flagsSet held flags
 
 -- Pages and times are numbers of 64 bits.
 abbrev pub Fit : List Item → Type 0

@@ -7,19 +7,20 @@ use trace::Reason;
 use trace::Refusal;
 use trace::Verdict;
 ghost use mathlib.Core.Path.{_≡_};
-ghost use mathlib.Core.Bool.{true};
+ghost use mathlib.Core.Bool.{true, cond};
 ghost use Prim.Native.Nat.{_+_, _*_, _≤_};
-ghost use lib.ListN.{length, set};
+ghost use lib.ListN.{length, getD, take, set};
 ghost use lib.Seq.{sets};
+ghost use lib.Dec.{eqb};
 ghost use Rattle.pages.specs.Rows.{over};
 ghost use Rattle.pages.specs.Pages.{has, place};
 ghost use Rattle.limits.proofs.Numbers.{filterMost};
-ghost use Rattle.filter.specs.Filter.{pagesIn, IsFilter};
+ghost use Rattle.filter.specs.Filter.{pagesIn, IsFilter, FirstNoted};
 ghost use Rattle.trace.specs.declared.Verdict.the-variants.{Sound};
 ghost use Rattle.trace.specs.Layout.{encodeItems, itemsFrom};
 ghost use Rattle.slim.specs.Keep.{reduce as reduced};
 ghost use Rattle.slim.specs.Reduce.{isMode, modeOf, reducedHeader, reducedFile, reduceVerdict, reduceAnswer, reduceOut};
-ghost use Rattle.slim.specs.Passes.{limit, CanLook, Looked, Within, CanKeep, keptThere, Flags, flagsSet, CanMend, Mended, CanSlim};
+ghost use Rattle.slim.specs.Passes.{limit, CanLook, Looked, Within, NoneNoted, CanKeep, keptThere, Flags, CanMend, Mended, CanSlim};
 
 // FastSlim, or FastSlim-Demand.
 pub enum Mode {
@@ -36,6 +37,12 @@ pub enum Reduced {
 pub struct Reach {
     pub end: usize,
     pub held: usize,
+}
+
+// How many items are in the output after a stretch, and how many pages are owed a write.
+pub struct Tally {
+    pub done: usize,
+    pub owing: usize,
 }
 
 // How many pages a stretch may leave in the filter.
@@ -86,7 +93,30 @@ fn look(
     Reach { end: k, held: c }
 }
 
-// A write of this page is dropped: the page is owed one. Where it is owed one already, which is often so, its flag tells that, and no page is read.
+// The first item from k on that the filter may note, where it is known to note none up to `skip`.
+fn noted_from(
+    file: &[u8],
+    last: &[u32],
+    held: usize,
+    base: usize,
+    heads: &[u16],
+    next: &[u16],
+    k: usize,
+    skip: usize,
+) -> usize
+    requires { ⌜ IsFilter (now file) (now last) held base (now heads) (now next) ⌝ }
+    requires { ⌜ 23 + 19 * (k + 1) ≤ length (now file) ⌝ }
+    requires { ⌜ NoneNoted (take held (now last)) k skip ⌝ }
+    ensures { λ r. ⌜ FirstNoted (take held (now (last .entry))) k r ⌝ }
+{
+    if k < skip {
+        return skip;
+    }
+    filter::first_noted(file, last, held, base, heads, next, k)
+}
+
+// A write of this page is dropped: the page is owed one, and so it is one more than `owing` if it was not owed one before.
+// Often it was: its flag tells that, and no page is read.
 fn owe(
     file: &[u8],
     last: &[u32],
@@ -95,18 +125,22 @@ fn owe(
     heads: &[u16],
     next: &[u16],
     owed: &mut [u8],
+    owing: usize,
     page: u64,
-)
+) -> usize
     requires { ⌜ IsFilter (now file) (now last) held base (now heads) (now next) ⌝ }
     requires { ⌜ has page (pagesIn (now file) (now last) held) ≡ true ⌝ }
     requires { ⌜ held ≤ length (now owed) ⌝ }
+    requires { ⌜ owing ≤ held ⌝ }
+    ensures { λ r. ⌜ r ≡ cond (eqb (getD (now (owed .entry)) (place page (pagesIn (now (file .entry)) (now (last .entry)) held)) 0) 1) owing (owing + 1) ⌝ }
     ensures { λ _. ⌜ now (owed .exit) ≡ set (now (owed .entry)) (place page (pagesIn (now (file .entry)) (now (last .entry)) held)) 1 ⌝ }
 {
     let j = filter::find_flagged(file, last, held, base, heads, next, owed, false, page);
     if held <= j {
-        return;
+        return owing;
     }
     owed[j] = 1;
+    owing + 1
 }
 
 // Second pass: writes each item that is the first of its page in the epoch, or the last of it in the stretch. A page of which a write is dropped is owed one.
@@ -125,17 +159,20 @@ fn keep(
     out: &mut [u8],
     done: usize,
     owed: &mut [u8],
-) -> usize
-    requires { ⌜ CanKeep (now file) from end had done (pagesIn (now file) (now last) held) (now last) (now owed) (now out) ⌝ }
+    owing: usize,
+) -> Tally
+    requires { ⌜ CanKeep (now file) from end had done owing (pagesIn (now file) (now last) held) (now last) (now owed) (now out) ⌝ }
     requires { ⌜ IsFilter (now file) (now last) held base (now heads) (now next) ⌝ }
-    ensures { λ r. ⌜ r ≡ done + length (keptThere (now (file .entry)) from end had (pagesIn (now (file .entry)) (now (last .entry)) held)) ⌝ }
+    ensures { λ r. ⌜ r .done ≡ done + length (keptThere (now (file .entry)) from end had (pagesIn (now (file .entry)) (now (last .entry)) held)) ⌝ }
     ensures { λ _. ⌜ now (out .exit) ≡ sets (now (out .entry)) (23 + 19 * done)
         (encodeItems (keptThere (now (file .entry)) from end had (pagesIn (now (file .entry)) (now (last .entry)) held))) ⌝ }
-    ensures { λ _. ⌜ Flags (now (file .entry)) from end had (pagesIn (now (file .entry)) (now (last .entry)) held) (now (owed .entry)) (now (owed .exit)) ⌝ }
+    ensures { λ r. ⌜ Flags (now (file .entry)) from end had (pagesIn (now (file .entry)) (now (last .entry)) held)
+        (now (owed .entry)) (now (owed .exit)) (r .owing) ⌝ }
 {
     let mut k = from;
     let mut c = had;
     let mut m = done;
+    let mut n = owing;
     let mut skip = from;
     while k < end {
         let x = trace::read::item_at(file, k);
@@ -146,49 +183,22 @@ fn keep(
             m += 1;
             k += 1;
         } else {
-            if k < skip {
-                if x.written {
-                    owe(file, last, held, base, heads, next, owed, x.page);
-                    k += 1;
-                } else {
-                    k += 1;
-                }
+            skip = noted_from(file, last, held, base, heads, next, k, skip);
+            if skip == k {
+                trace::write::item(out, m, x);
+                m += 1;
+                k += 1;
             } else {
-                skip = filter::first_noted(file, last, held, base, heads, next, k);
-                if skip == k {
-                    trace::write::item(out, m, x);
-                    m += 1;
+                if x.written {
+                    n = owe(file, last, held, base, heads, next, owed, n, x.page);
                     k += 1;
                 } else {
-                    if x.written {
-                        owe(file, last, held, base, heads, next, owed, x.page);
-                        k += 1;
-                    } else {
-                        k += 1;
-                    }
+                    k += 1;
                 }
             }
         }
     }
-    m
-}
-
-// How many of the first c flags are set.
-fn count_owed(owed: &[u8], c: usize) -> usize
-    requires { ⌜ c ≤ length (now owed) ⌝ }
-    ensures { λ r. ⌜ r ≡ flagsSet c (now (owed .entry)) ⌝ }
-{
-    let mut j = 0;
-    let mut n = 0;
-    while j < c {
-        if owed[j] == 1 {
-            n += 1;
-            j += 1;
-        } else {
-            j += 1;
-        }
-    }
-    n
+    Tally { done: m, owing: n }
 }
 
 // Back over the items of an epoch in the output, until all is settled: the last of each page that is owed a write becomes one.
@@ -203,12 +213,13 @@ fn mend(
     from: usize,
     to: usize,
     owed: &mut [u8],
+    owing: usize,
 )
     requires { ⌜ IsFilter (now file) (now last) held base (now heads) (now next) ⌝ }
-    requires { ⌜ CanMend from to held (now out) (now owed) ⌝ }
+    requires { ⌜ CanMend from to held owing (now out) (now owed) ⌝ }
     ensures { λ _. ⌜ Mended (pagesIn (now (file .entry)) (now (last .entry)) held) (now (owed .entry)) from to (now (out .entry)) (now (out .exit)) ⌝ }
 {
-    let mut left = count_owed(owed, held);
+    let mut left = owing;
     let mut k = to;
     while from < k {
         if left == 0 {
@@ -233,6 +244,42 @@ fn mend(
     }
 }
 
+// An epoch ends: its items are mended if one of its pages is owed a write.
+fn end_epoch(
+    file: &[u8],
+    last: &[u32],
+    held: usize,
+    base: usize,
+    heads: &[u16],
+    next: &[u16],
+    out: &mut [u8],
+    from: usize,
+    to: usize,
+    owed: &mut [u8],
+    owing: usize,
+)
+    requires { ⌜ IsFilter (now file) (now last) held base (now heads) (now next) ⌝ }
+    requires { ⌜ CanMend from to held owing (now out) (now owed) ⌝ }
+    ensures { λ _. ⌜ Mended (pagesIn (now (file .entry)) (now (last .entry)) held) (now (owed .entry)) from to (now (out .entry)) (now (out .exit)) ⌝ }
+{
+    if owing == 0 {
+        return;
+    }
+    mend(
+        file,
+        last,
+        held,
+        base,
+        heads,
+        next,
+        out,
+        from,
+        to,
+        owed,
+        owing,
+    );
+}
+
 // All stretches, one after the other: the filter is emptied when it is full, and an epoch's items are mended when it ends.
 fn slim(
     file: &[u8],
@@ -254,23 +301,53 @@ fn slim(
     let mut base = 0;
     let mut begun = 0;
     let mut m = 0;
+    let mut owing = 0;
     while i < n {
         let most = limit_of(mode, size, held);
         let s = look(file, n, i, most, last, base, heads, next, held);
         let end = s.end;
         let c = s.held;
-        m = keep(file, i, end, last, c, base, heads, next, held, out, m, owed);
+        let t = keep(
+            file,
+            i,
+            end,
+            last,
+            c,
+            base,
+            heads,
+            next,
+            held,
+            out,
+            m,
+            owed,
+            owing,
+        );
         i = end;
+        m = t.done;
+        owing = t.owing;
         if c == size {
-            mend(file, last, c, base, heads, next, out, begun, m, owed);
+            end_epoch(file, last, c, base, heads, next, out, begun, m, owed, owing);
             begun = m;
+            owing = 0;
             held = 0;
             base = filter::empty(file, last, c, base, heads, next);
         } else {
             held = c;
         }
     }
-    mend(file, last, held, base, heads, next, out, begun, m, owed);
+    end_epoch(
+        file,
+        last,
+        held,
+        base,
+        heads,
+        next,
+        out,
+        begun,
+        m,
+        owed,
+        owing,
+    );
     m
 }
 

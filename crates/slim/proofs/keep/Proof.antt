@@ -3,20 +3,19 @@ use Prim.Native.Nat.{_-_}
 use native.Mathlib.Omega.{arith}
 use borrow.Author.Needs.{needs}
 use Rattle.filter.specs.Filter.{pagesIn}
-use Rattle.slim.proofs.Keeping.{Keeping, keeping-none, keeping-long, keeping-has, keeping-flag, keeping-new, keeping-last}
-use Rattle.slim.proofs.Keeping.{keeping-known, keeping-known-write, keeping-skip, keeping-skip-write}
-use Rattle.slim.proofs.Keeping.{keeping-count, keeping-bytes, keeping-flags}
+use Rattle.slim.proofs.Keeping.{Keeping, keeping-none, keeping-long, keeping-owing, keeping-has, keeping-flag}
+use Rattle.slim.proofs.Keeping.{keeping-new, keeping-last, keeping-skip, keeping-drop, keeping-count, keeping-bytes, keeping-flags}
 use Rattle.slim.proofs.keep.Statement.{statement}
 use Rattle.slim.proofs.keep.Tie as tie
 
 ruleset laws = (keeping-none, keeping-has, keeping-flag, needs)
 
 abbrev Inv-loop : tie.InvT-loop
-Inv-loop file from end last held base heads next had out₀ done owed₀ k₀ c₀ m₀ skip₀ out owed k c m skip =
-    Keeping file from end had done (pagesIn file last held) last held owed₀ out₀ k c m skip owed out
+Inv-loop file from end last held base heads next had out₀ done owed₀ owing k₀ c₀ m₀ n₀ skip₀ out owed k c m n skip =
+    Keeping file from end had done (pagesIn file last held) last held owed₀ out₀ k c m n skip owed out
 
 abbrev μ-loop : tie.MeasureT-loop
-μ-loop file from end last held base heads next had out₀ done owed₀ k₀ c₀ m₀ skip₀ out owed k c m skip = end - k
+μ-loop file from end last held base heads next had out₀ done owed₀ owing k₀ c₀ m₀ n₀ skip₀ out owed k c m n skip = end - k
 
 -- A turn writes an item that is the first of its page.
 one-new : tie.Need-loop-again Inv-loop μ-loop
@@ -27,90 +26,67 @@ one-new c =
     let turn = asked .before .before in
     keeping-new (turn .before .loop .inv) (turn .loop-test .taken) (asked .before .item-at .ensures) (asked .is-at .ensures) (new .if1 .taken) (written .item .ensures)
 
--- The page of a write that is dropped is in the filter, and has a flag:
-may-owe : tie.Need-owe-requires Inv-loop μ-loop
-may-owe c κs =
-    let read = c .before .before .before .before .before in
-    let turn = read .before in
+-- Of another item it is asked whether it is noted.
+may-ask : tie.Need-noted-from-requires Inv-loop μ-loop
+may-ask c κs =
+    let turn = c .before .before .before in
     let start = turn .before .before .before .before .before .before .before .before in
-    let at = turn .before .loop .inv in
-    (start .pre .1, (keeping-has at (turn .loop-test .taken) (read .item-at .ensures), keeping-long at (start .pre .1 .notes)))
-
--- a turn passes an item that is known not to be noted, a write
-one-known-write : tie.Need-loop-again-2 Inv-loop μ-loop
-one-known-write c =
-    let owed = c .before .before in
-    let write = owed .before .before in
-    let known = write .before in
-    let old = known .before in
-    let asked = old .before in
-    let turn = asked .before .before in
-    let start = turn .before .before .before .before .before .before .before .before in
-    keeping-known-write (turn .before .loop .inv) (turn .loop-test .taken) (asked .before .item-at .ensures) (asked .is-at .ensures) (old .if1 .left) (start .pre .1 .notes)
-    (known .if2 .taken) (write .if3 .taken) (owed .owe .ensures)
-
--- or a read.
-one-known : tie.Need-loop-again-3 Inv-loop μ-loop
-one-known c =
-    let known = c .before in
-    let old = known .before in
-    let asked = old .before in
-    let turn = asked .before .before in
-    let start = turn .before .before .before .before .before .before .before .before in
-    keeping-known (turn .before .loop .inv) (turn .loop-test .taken) (asked .before .item-at .ensures) (asked .is-at .ensures) (old .if1 .left) (start .pre .1 .notes)
-    (known .if2 .taken) (c .if3 .left)
+    let test = turn .loop-test .taken in
+    let long = start .pre .0 .file-long in
+    (start .pre .1, (omega arith, turn .before .loop .inv .skipped))
 
 -- A turn writes an item that is the last of its page.
-one-last : tie.Need-loop-again-4 Inv-loop μ-loop
+one-last : tie.Need-loop-again-2 Inv-loop μ-loop
 one-last c =
     let written = c .before .before in
     let last = written .before .before in
     let noted = last .before in
-    let old = noted .before .before in
+    let old = noted .before in
     let asked = old .before in
     let turn = asked .before .before in
     let start = turn .before .before .before .before .before .before .before .before in
     keeping-last (turn .before .loop .inv) (turn .loop-test .taken) (asked .before .item-at .ensures) (asked .is-at .ensures) (old .if1 .left) (start .pre .1 .notes)
-    (noted .first-noted .ensures) (last .if4 .taken) (written .item2 .ensures)
+    (noted .noted-from .ensures) (last .if2 .taken) (written .item2 .ensures)
 
--- A turn passes an item that is found to be neither, a write
-may-owe-2 : tie.Need-owe-requires-2 Inv-loop μ-loop
-may-owe-2 c κs =
-    let read = c .before .before .before .before .before .before .before in
+-- The page of a write that is dropped is in the filter, and has a flag.
+may-owe : tie.Need-owe-requires Inv-loop μ-loop
+may-owe c κs =
+    let read = c .before .before .before .before .before .before in
     let turn = read .before in
     let start = turn .before .before .before .before .before .before .before .before in
     let at = turn .before .loop .inv in
-    (start .pre .1, (keeping-has at (turn .loop-test .taken) (read .item-at .ensures), keeping-long at (start .pre .1 .notes)))
+    (start .pre .1, (keeping-has at (turn .loop-test .taken) (read .item-at .ensures), (keeping-long at (start .pre .1 .notes), keeping-owing at (start .pre .1 .notes))))
 
-one-skip-write : tie.Need-loop-again-5 Inv-loop μ-loop
-one-skip-write c =
+-- A turn drops a write,
+one-drop : tie.Need-loop-again-3 Inv-loop μ-loop
+one-drop c =
     let owed = c .before .before in
     let write = owed .before .before in
     let other = write .before in
     let noted = other .before in
-    let old = noted .before .before in
+    let old = noted .before in
     let asked = old .before in
     let turn = asked .before .before in
     let start = turn .before .before .before .before .before .before .before .before in
-    keeping-skip-write (turn .before .loop .inv) (turn .loop-test .taken) (asked .before .item-at .ensures) (asked .is-at .ensures) (old .if1 .left) (start .pre .1 .notes)
-    (noted .first-noted .ensures) (other .if4 .left) (write .if5 .taken) (owed .owe2 .ensures)
+    keeping-drop (turn .before .loop .inv) (turn .loop-test .taken) (asked .before .item-at .ensures) (asked .is-at .ensures) (old .if1 .left) (start .pre .1 .notes)
+    (noted .noted-from .ensures) (other .if2 .left) (write .if3 .taken) (owed .owe .ensures .0) (owed .owe .ensures .1)
 
 -- or a read.
-one-skip : tie.Need-loop-again-6 Inv-loop μ-loop
+one-skip : tie.Need-loop-again-4 Inv-loop μ-loop
 one-skip c =
     let other = c .before in
     let noted = other .before in
-    let old = noted .before .before in
+    let old = noted .before in
     let asked = old .before in
     let turn = asked .before .before in
     let start = turn .before .before .before .before .before .before .before .before in
     keeping-skip (turn .before .loop .inv) (turn .loop-test .taken) (asked .before .item-at .ensures) (asked .is-at .ensures) (old .if1 .left) (start .pre .1 .notes)
-    (noted .first-noted .ensures) (other .if4 .left) (c .if5 .left)
+    (noted .noted-from .ensures) (other .if2 .left) (c .if3 .left)
 
 -- The count of items written fits: the output has room for them.
 fits : tie.Need-add-m-2 Inv-loop μ-loop
 fits c =
-    let turn = c .before .before .before .before .before .before .before .before .before .before in
+    let turn = c .before .before .before .before .before .before .before .before .before in
     let start = turn .before .before .before .before .before .before .before .before in
     let at = turn .before .loop .inv in
     let test = turn .loop-test .taken in
@@ -144,23 +120,16 @@ keep-spec =
     (λ c. search laws)
     (λ c. search laws)
     one-new
-    may-owe
-    (λ c. search laws)
-    (λ c. search laws)
-    one-known-write
-    (λ c. search laws)
-    (λ c. search laws)
-    one-known
-    (λ c κs. search laws)
+    may-ask
     (λ c κs. search laws)
     fits
     (λ c. search laws)
     (λ c. search laws)
     one-last
-    may-owe-2
+    may-owe
     (λ c. search laws)
     (λ c. search laws)
-    one-skip-write
+    one-drop
     (λ c. search laws)
     (λ c. search laws)
     one-skip

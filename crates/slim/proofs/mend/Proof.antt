@@ -10,16 +10,16 @@ use Rattle.slim.proofs.mend.Tie as tie
 ruleset laws = (mending-none, mending-stop, mending-all, notes-long, needs)
 
 abbrev Inv-loop : tie.InvT-loop
-Inv-loop file last held base heads next out₀ from to owed₀ left₀ k₀ out owed left k = Mending (pagesIn file last held) owed₀ held from to out₀ owed out k left
+Inv-loop file last held base heads next out₀ from to owed₀ owing left₀ k₀ out owed left k = Mending (pagesIn file last held) owed₀ held from to out₀ owed out k left
 
 abbrev μ-loop : tie.MeasureT-loop
-μ-loop file last held base heads next out₀ from to owed₀ left₀ k₀ out owed left k = k - from
+μ-loop file last held base heads next out₀ from to owed₀ owing left₀ k₀ out owed left k = k - from
 
 -- An item's page may be looked for by its flag.
 may-find : tie.Need-find-flagged-requires Inv-loop μ-loop
 may-find c κs =
     let at = c .before .before .before .before .before in
-    let start = at .before .before .before .before .before .before .before .before .before in
+    let start = at .before .before .before .before .before .before .before in
     (start .pre .0, mending-long (at .loop .inv))
 
 -- Its page has a flag.
@@ -53,7 +53,6 @@ mend-spec =
     (tie.spec
     Inv-loop
     μ-loop
-    (λ c κs. search laws)
     (λ c. search laws)
     (λ c. search laws)
     (λ c. search laws)

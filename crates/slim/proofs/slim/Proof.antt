@@ -9,11 +9,11 @@ use Rattle.slim.proofs.slim.Tie as tie
 ruleset laws = (slimming-none, slimming-look, needs)
 
 abbrev Inv-loop : tie.InvT-loop
-Inv-loop file n mode size last₀ heads₀ next₀ owed₀ out₀ i₀ held₀ base₀ begun₀ m₀ last heads next owed out i held base begun m =
-    Slimming file n mode size last₀ heads₀ next₀ owed₀ out₀ last heads next owed out i held base begun m
+Inv-loop file n mode size last₀ heads₀ next₀ owed₀ out₀ i₀ held₀ base₀ begun₀ m₀ owing₀ last heads next owed out i held base begun m owing =
+    Slimming file n mode size last₀ heads₀ next₀ owed₀ out₀ last heads next owed out i held base begun m owing
 
 abbrev μ-loop : tie.MeasureT-loop
-μ-loop file n mode size last₀ heads₀ next₀ owed₀ out₀ i₀ held₀ base₀ begun₀ m₀ last heads next owed out i held base begun m = n - i
+μ-loop file n mode size last₀ heads₀ next₀ owed₀ out₀ i₀ held₀ base₀ begun₀ m₀ owing₀ last heads next owed out i held base begun m owing = n - i
 
 -- The second pass follows the first.
 follows : tie.Need-keep-requires Inv-loop μ-loop
@@ -29,7 +29,7 @@ follows c κs =
     )
 
 -- The items of an epoch that ends may be mended,
-may-mend : tie.Need-mend-requires Inv-loop μ-loop
+may-mend : tie.Need-end-epoch-requires Inv-loop μ-loop
 may-mend c κs =
     let wrote = c .before .before .before .before .before .before .before .before .before .before in
     let looked = wrote .before .before .before .before .before .before .before .before .before .before .before .before in
@@ -76,7 +76,7 @@ goes-full c =
     slimming-full (turn .before .loop .inv) (turn .loop-test .taken) (sized .limit-of .ensures)
     (looked .look .ensures .0) (looked .look .ensures .1) (same .0) (same .1 .1 .0) (same .1 .1 .1 .0)
     (wrote .keep .ensures .0) (wrote .keep .ensures .1 .0) (wrote .keep .ensures .1 .1) (wrote .keep .kept .1 .1 .1 .1 .1 .1 .1 .1 .1 .1 .1 .0)
-    (full .if1 .taken) (mended .mend .ensures) (mended .mend .kept .1 .1 .1 .1 .1 .1 .1 .1 .1 .0) (emptied .empty .ensures .1 .1) (emptied .empty .kept .1 .1 .1 .1 .0)
+    (full .if1 .taken) (mended .end-epoch .ensures) (mended .end-epoch .kept .1 .1 .1 .1 .1 .1 .1 .1 .1 .0) (emptied .empty .ensures .1 .1) (emptied .empty .kept .1 .1 .1 .1 .0)
 
 -- fewer are left after one that does not, and the next goes on with its pages.
 moves-else : tie.Need-loop-less-2 Inv-loop μ-loop
@@ -100,7 +100,7 @@ goes-else c =
     (wrote .keep .ensures .0) (wrote .keep .ensures .1 .0) (wrote .keep .ensures .1 .1) (wrote .keep .kept .1 .1 .1 .1 .1 .1 .1 .1 .1 .1 .1 .0) (c .if1 .left)
 
 -- The items of the last epoch may be mended,
-may-end : tie.Need-mend-requires-2 Inv-loop μ-loop
+may-end : tie.Need-end-epoch-requires-2 Inv-loop μ-loop
 may-end c κs =
     let test = c .before .before .before .before .before in
     let at = test .before .loop .inv in
@@ -112,7 +112,7 @@ returns c =
     let mended = c .before .before .before .before in
     let test = mended .before .before .before .before .before .before in
     let at = test .before .loop .inv in
-    (slimming-count at (test .loop-test .left), slimming-bytes at (test .loop-test .left) (mended .mend2 .ensures))
+    (slimming-count at (test .loop-test .left), slimming-bytes at (test .loop-test .left) (mended .end-epoch2 .ensures))
 
 pub slim-spec : {M : Type 1} → statement M
 slim-spec =
