@@ -149,12 +149,12 @@ pub fn find_flagged(
     requires { ⌜ held ≤ length (now flags) ⌝ }
     ensures { λ r. ⌜ r ≡ placeIf on (now (flags .entry)) page (pagesIn (now (file .entry)) (now (last .entry)) held) ⌝ }
 {
-    let mut e = chains::head(base, heads, bucket(page));
-    while 0 < e {
-        if is_flagged(file, last, flags, on, page, e - 1) {
-            return e - 1;
+    let mut d = chains::head(base, heads, bucket(page));
+    while 0 < d {
+        if is_flagged(file, last, flags, on, page, d - 1) {
+            return d - 1;
         }
-        e = chains::link(next, e - 1);
+        d = chains::link(next, d - 1);
     }
     held
 }

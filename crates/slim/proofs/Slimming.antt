@@ -59,10 +59,10 @@ append-fit : (a b : List Item) → Fit a → Fit b → Fit (a ++ b)
 append-fit [] b f g = g
 append-fit (i ∷ a) b f g = (f .0, f .1, append-fit a b (f .2) g)
 
--- Before the stretch that begins at item i: the filter holds `held` pages, and m items are kept and written. Those before item `begun` are of the epochs
+-- Before the stretch that begins at item i: the filter holds `held` pages, and m items are kept and written. Those before item `past` are of the epochs
 -- before, and are settled; the others, `here`, are of this one, of whose pages those `owing` are owed a write.
 pub record Slimming (file : List ℕ) (n : ℕ) (mode : Mode) (size : ℕ) (last₀ heads₀ next₀ owed₀ out₀ last heads next owed out : List ℕ)
-    (i held base begun m left : ℕ) : Type 0 where
+    (i held base past m left : ℕ) : Type 0 where
   pub can : CanSlim file n size last₀ heads₀ next₀ owed₀ out₀
   pub within : i ≤ n
   pub holds : held ≤ size
@@ -78,9 +78,9 @@ pub record Slimming (file : List ℕ) (n : ℕ) (mode : Mode) (size : ℕ) (last
   pub owing : List ℕ
   pub mid : List ℕ
   pub wrote-done : Wrote 0 done out₀ mid
-  pub wrote-here : Wrote begun here mid out
-  pub begun-is : begun ≡ length done
-  pub count : m ≡ begun + length here
+  pub wrote-here : Wrote past here mid out
+  pub past-is : past ≡ length done
+  pub count : m ≡ past + length here
   pub few : m ≤ i
   pub fit : Fit here
   pub known : (p : ℕ) → has p (pages here) ≡ true → has p (pagesIn file last held) ≡ true
@@ -109,7 +109,7 @@ slimming-none file n mode size last heads next owed out c = record {
   mid = out;
   wrote-done = wrote-none 0 out;
   wrote-here = wrote-none 0 out;
-  begun-is = refl;
+  past-is = refl;
   count = omega arith;
   few = omega arith;
   fit = tt;
@@ -128,8 +128,8 @@ unfolding limit
 limit-within Demand B held seen i t e h r = (h, omega arith)
 limit-within FastSlim B held seen i t e h r = (omega arith, omega arith)
 
-module _ {file : List ℕ} {n : ℕ} {mode : Mode} {size : ℕ} {last₀ heads₀ next₀ owed₀ out₀ last heads next owed out : List ℕ} {i held base begun m left : ℕ}
-    (s : Slimming file n mode size last₀ heads₀ next₀ owed₀ out₀ last heads next owed out i held base begun m left) (l : i < n) where
+module _ {file : List ℕ} {n : ℕ} {mode : Mode} {size : ℕ} {last₀ heads₀ next₀ owed₀ out₀ last heads next owed out : List ℕ} {i held base past m left : ℕ}
+    (s : Slimming file n mode size last₀ heads₀ next₀ owed₀ out₀ last heads next owed out i held base past m left) (l : i < n) where
   seen-long : length (pagesIn file last held) ≡ held
   seen-long = notes-long (s .filter .notes)
 
@@ -227,11 +227,11 @@ module _ {file : List ℕ} {n : ℕ} {mode : Mode} {size : ℕ} {last₀ heads�
         now-owing : List ℕ
         now-owing = lost Demand (pagesIn file last held) (s .owing) (itemsFrom file i (r .end - i))
 
-        now-wrote : Wrote begun now-here (s .mid) out′
+        now-wrote : Wrote past now-here (s .mid) out′
         unfolding now-here
         now-wrote = wrote-then (s .wrote-here) (s .count) (record { bytes-are = rw (← kept-is) o })
 
-        now-count : m′ ≡ begun + length now-here
+        now-count : m′ ≡ past + length now-here
         unfolding now-here
         now-count = omega (arith, c, ap length kept-is, s .count, length-append (s .here) (kept Demand (pagesIn file last held) (itemsFrom file i (r .end - i))))
 
@@ -270,13 +270,13 @@ module _ {file : List ℕ} {n : ℕ} {mode : Mode} {size : ℕ} {last₀ heads�
             rw (filter-is, ← stretch-eq, ← beyond-eq, ← all) (s .all)
 
         -- Its items stand in the output as the kept ones, and may be mended.
-        now-stand : Stand (pagesIn file last′ (r .held)) owed′ begun m′ out′ (s .mid) now-here now-owing
+        now-stand : Stand (pagesIn file last′ (r .held)) owed′ past m′ out′ (s .mid) now-here now-owing
         now-stand = record { wrote = now-wrote .bytes-are; count = now-count; fit = now-fit; known = now-known; owes = now-owes }
 
         now-left : left′ ≡ flagsSet (r .held) owed′
         now-left = rw held-long at (g .count)
 
-        pub slimming-mend : CanMend begun m′ (r .held) left′ out′ owed′
+        pub slimming-mend : CanMend past m′ (r .held) left′ out′ owed′
         slimming-mend =
             let b = bounds in
             record {
@@ -293,14 +293,14 @@ module _ {file : List ℕ} {n : ℕ} {mode : Mode} {size : ℕ} {last₀ heads�
         now-next = rw (filter-is, ← stretch-eq, ← beyond-eq) (stretch-next mode size (s .can .some) (pagesIn file last held) (itemsFrom file i (n - i)) (s .ready))
 
         -- The filter is full: the epoch is mended, and the filter emptied.
-        pub slimming-full : r .held ≡ size → {owed″ out″ : List ℕ} → Mended (pagesIn file last′ (r .held)) owed′ begun m′ out′ out″ → length owed″ ≡ length owed′
+        pub slimming-full : r .held ≡ size → {owed″ out″ : List ℕ} → Mended (pagesIn file last′ (r .held)) owed′ past m′ out′ out″ → length owed″ ≡ length owed′
             → {base′ : ℕ} {heads″ : List ℕ} → Holds file last′ 0 base′ heads″ next′ [] → length heads″ ≡ length heads′
             → Slimming file n mode size last₀ heads₀ next₀ owed₀ out₀ last′ heads″ next′ owed″ out″ (r .end) 0 base′ m′ m′ 0
         unfolding pagesOf has pages flagsSet
         slimming-full f {owed″} {out″} me ol′ a hl′ =
             let F = pagesIn file last′ (r .held) in
             let wr : Wrote 0 (s .done ++ settled now-owing now-here) out₀ out″ =
-            wrote-then (s .wrote-done) (s .begun-is ∙ sym (zero-add (length (s .done)))) (record { bytes-are = me .settles (s .mid) now-here now-owing now-stand }) in
+            wrote-then (s .wrote-done) (s .past-is ∙ sym (zero-add (length (s .done)))) (record { bytes-are = me .settles (s .mid) now-here now-owing now-stand }) in
             let full = reduce-full size F mode (s .can .some) (limit mode size (length (pagesIn file last held))) now-owing now-here
             (itemsFrom file (r .end) (n - r .end)) (held-long ∙ f) now-next in
             record {
@@ -320,7 +320,7 @@ module _ {file : List ℕ} {n : ℕ} {mode : Mode} {size : ℕ} {last₀ heads�
               mid = out″;
               wrote-done = wr;
               wrote-here = wrote-none m′ out″;
-              begun-is = rw (length-append, length-settled, ← s .begun-is) now-count;
+              past-is = rw (length-append, length-settled, ← s .past-is) now-count;
               count = omega arith;
               few = now-few;
               fit = tt;
@@ -332,7 +332,7 @@ module _ {file : List ℕ} {n : ℕ} {mode : Mode} {size : ℕ} {last₀ heads�
 
         -- It is not, and goes on.
         pub slimming-else : (r .held ≡ size → ⊥)
-            → Slimming file n mode size last₀ heads₀ next₀ owed₀ out₀ last′ heads′ next′ owed′ out′ (r .end) (r .held) base begun m′ left′
+            → Slimming file n mode size last₀ heads₀ next₀ owed₀ out₀ last′ heads′ next′ owed′ out′ (r .end) (r .held) base past m′ left′
         slimming-else f =
             let b = bounds in
             record {
@@ -352,7 +352,7 @@ module _ {file : List ℕ} {n : ℕ} {mode : Mode} {size : ℕ} {last₀ heads�
               mid = s .mid;
               wrote-done = s .wrote-done;
               wrote-here = now-wrote;
-              begun-is = s .begun-is;
+              past-is = s .past-is;
               count = now-count;
               few = now-few;
               fit = now-fit;
@@ -364,10 +364,10 @@ module _ {file : List ℕ} {n : ℕ} {mode : Mode} {size : ℕ} {last₀ heads�
 
 -- ---- all stretches are done
 
-module _ {file : List ℕ} {n : ℕ} {mode : Mode} {size : ℕ} {last₀ heads₀ next₀ owed₀ out₀ last heads next owed out : List ℕ} {i held base begun m left : ℕ}
-    (s : Slimming file n mode size last₀ heads₀ next₀ owed₀ out₀ last heads next owed out i held base begun m left) (l : n ≤ i) where
+module _ {file : List ℕ} {n : ℕ} {mode : Mode} {size : ℕ} {last₀ heads₀ next₀ owed₀ out₀ last heads next owed out : List ℕ} {i held base past m left : ℕ}
+    (s : Slimming file n mode size last₀ heads₀ next₀ owed₀ out₀ last heads next owed out i held base past m left) (l : n ≤ i) where
   -- The last epoch's items may be mended.
-  pub ended-mend : CanMend begun m held left out owed
+  pub ended-mend : CanMend past m held left out owed
   ended-mend = record {
     within = omega (arith, s .count);
     room = omega (arith, s .few, s .within, s .can .fits, s .out-long);
@@ -382,12 +382,12 @@ module _ {file : List ℕ} {n : ℕ} {mode : Mode} {size : ℕ} {last₀ heads�
   pub slimming-count : m ≡ length (reduce mode size (itemsFrom file 0 n))
   slimming-count =
       let long = length-append (s .done) (settled (s .owing) (s .here)) in
-      omega (arith, s .count, s .begun-is, ap length all-kept, long, length-settled (s .owing) (s .here))
+      omega (arith, s .count, s .past-is, ap length all-kept, long, length-settled (s .owing) (s .here))
 
-  pub slimming-bytes : {out′ : List ℕ} → Mended (pagesIn file last held) owed begun m out out′ → out′ ≡ sets out₀ 23 (encodeItems (reduce mode size (itemsFrom file 0 n)))
+  pub slimming-bytes : {out′ : List ℕ} → Mended (pagesIn file last held) owed past m out out′ → out′ ≡ sets out₀ 23 (encodeItems (reduce mode size (itemsFrom file 0 n)))
   slimming-bytes {out′} me =
-      let stand : Stand (pagesIn file last held) owed begun m out (s .mid) (s .here) (s .owing) =
+      let stand : Stand (pagesIn file last held) owed past m out (s .mid) (s .here) (s .owing) =
       record { wrote = s .wrote-here .bytes-are; count = s .count; fit = s .fit; known = s .known; owes = s .owes } in
       let wr : Wrote 0 (s .done ++ settled (s .owing) (s .here)) out₀ out′ =
-      wrote-then (s .wrote-done) (s .begun-is ∙ sym (zero-add (length (s .done)))) (record { bytes-are = me .settles (s .mid) (s .here) (s .owing) stand }) in
+      wrote-then (s .wrote-done) (s .past-is ∙ sym (zero-add (length (s .done)))) (record { bytes-are = me .settles (s .mid) (s .here) (s .owing) stand }) in
       wr .bytes-are ∙ ap (λ (t : List Item). sets out₀ 23 (encodeItems t)) all-kept

@@ -299,18 +299,17 @@ fn slim(
     let mut i = 0;
     let mut held = 0;
     let mut base = 0;
-    let mut begun = 0;
+    let mut past = 0;
     let mut m = 0;
-    let mut owing = 0;
+    let mut due = 0;
     while i < n {
         let most = limit_of(mode, size, held);
         let s = look(file, n, i, most, last, base, heads, next, held);
-        let end = s.end;
         let c = s.held;
         let t = keep(
             file,
             i,
-            end,
+            s.end,
             last,
             c,
             base,
@@ -320,34 +319,22 @@ fn slim(
             out,
             m,
             owed,
-            owing,
+            due,
         );
-        i = end;
+        i = s.end;
         m = t.done;
-        owing = t.owing;
+        due = t.owing;
         if c == size {
-            end_epoch(file, last, c, base, heads, next, out, begun, m, owed, owing);
-            begun = m;
-            owing = 0;
+            end_epoch(file, last, c, base, heads, next, out, past, m, owed, due);
+            past = m;
+            due = 0;
             held = 0;
             base = filter::empty(file, last, c, base, heads, next);
         } else {
             held = c;
         }
     }
-    end_epoch(
-        file,
-        last,
-        held,
-        base,
-        heads,
-        next,
-        out,
-        begun,
-        m,
-        owed,
-        owing,
-    );
+    end_epoch(file, last, held, base, heads, next, out, past, m, owed, due);
     m
 }
 

@@ -8,10 +8,10 @@ use Rattle.filter.proofs.find_flagged.Statement.{statement}
 use Rattle.filter.proofs.find_flagged.Tie as tie
 
 abbrev Inv-loop : tie.InvT-loop
-Inv-loop file last held base heads next flags on page e₀ e = Asking on flags (pagesIn file last held) held page e
+Inv-loop file last held base heads next flags on page d₀ d = Asking on flags (pagesIn file last held) held page d
 
 abbrev μ-loop : tie.MeasureT-loop
-μ-loop file last held base heads next flags on page e₀ e = e
+μ-loop file last held base heads next flags on page d₀ d = d
 
 -- The place in hand can be asked.
 may-ask : tie.Need-is-flagged-requires Inv-loop μ-loop

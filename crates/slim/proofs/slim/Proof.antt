@@ -9,11 +9,11 @@ use Rattle.slim.proofs.slim.Tie as tie
 ruleset laws = (slimming-none, slimming-look, needs)
 
 abbrev Inv-loop : tie.InvT-loop
-Inv-loop file n mode size last₀ heads₀ next₀ owed₀ out₀ i₀ held₀ base₀ begun₀ m₀ owing₀ last heads next owed out i held base begun m owing =
-    Slimming file n mode size last₀ heads₀ next₀ owed₀ out₀ last heads next owed out i held base begun m owing
+Inv-loop file n mode size last₀ heads₀ next₀ owed₀ out₀ i₀ held₀ base₀ past₀ m₀ due₀ last heads next owed out i held base past m due =
+    Slimming file n mode size last₀ heads₀ next₀ owed₀ out₀ last heads next owed out i held base past m due
 
 abbrev μ-loop : tie.MeasureT-loop
-μ-loop file n mode size last₀ heads₀ next₀ owed₀ out₀ i₀ held₀ base₀ begun₀ m₀ owing₀ last heads next owed out i held base begun m owing = n - i
+μ-loop file n mode size last₀ heads₀ next₀ owed₀ out₀ i₀ held₀ base₀ past₀ m₀ due₀ last heads next owed out i held base past m due = n - i
 
 -- The second pass follows the first.
 follows : tie.Need-keep-requires Inv-loop μ-loop
