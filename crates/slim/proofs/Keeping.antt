@@ -75,7 +75,8 @@ module _ {F last : List ℕ} {k c : ℕ} {x : Item} {v : List Item} (l : Left F 
   after = l .filter-is
 
   -- A turn keeps what `keeps` says.
-  turn : {c′ : ℕ} (a : List Item) {flags flags′ : List ℕ} → length (add (x .page) (take c F)) ≡ c′ → ((u : List Item) → consIf (keeps Demand (take c F) x v) x u ≡ a ++ u)
+  turn : {c′ : ℕ} (a : List Item) {flags flags′ : List ℕ} → length (add (x .page) (take c F)) ≡ c′
+      → ((u : List Item) → consIf (keeps Demand (take c F) x v) x u ≡ a ++ u)
       → ((owed : List ℕ) → Owes (take c F) flags owed → Owes (add (x .page) (take c F)) flags′ (owe (keeps Demand (take c F) x v) x owed))
       → Turn F last flags k c x v c′ a flags′
   unfolding has pages lastPlace kept lost
@@ -166,7 +167,8 @@ still-none n o = record { from = omega arith; none = n .none; here = λ e. absur
 -- ---- the loop: up to item k the stretch is passed, and m items are in the output
 
 -- What is kept so far is written behind what was done, and with what is kept of the rest it is all.
-pub record Keeping (file : List ℕ) (from end had done : ℕ) (filter last : List ℕ) (held : ℕ) (flags₀ out₀ : List ℕ) (k c m n skip : ℕ) (flags out : List ℕ) : Type 0 where
+pub record Keeping (file : List ℕ) (from end had done : ℕ) (filter last : List ℕ) (held : ℕ) (flags₀ out₀ : List ℕ)
+    (k c m n skip : ℕ) (flags out : List ℕ) : Type 0 where
   pub within : k ≤ end
   pub left : Left filter last k c (itemsFrom file k (end - k))
   pub so-far : List Item
@@ -223,7 +225,8 @@ module _ {file : List ℕ} {from end had done : ℕ} {filter last : List ℕ} {h
 
     -- A turn is done that keeps the items a.
     passed : {c′ m′ n′ skip′ : ℕ} {a : List Item} {flags′ out′ : List ℕ} → Turn filter last flags k c x (itemsFrom file (k + 1) (end - (k + 1))) c′ a flags′
-        → Wrote m a out out′ → m′ ≡ m + length a → length a ≤ 1 → length flags′ ≡ length flags → n′ ≡ flagsSet c′ flags′ → NoneNoted (take held last) (k + 1) skip′
+        → Wrote m a out out′ → m′ ≡ m + length a → length a ≤ 1 → length flags′ ≡ length flags → n′ ≡ flagsSet c′ flags′
+        → NoneNoted (take held last) (k + 1) skip′
         → Keeping file from end had done filter last held flags₀ out₀ (k + 1) c′ m′ n′ skip′ flags′ out′
     passed {a = a} t w e s f g u = record {
       within = omega arith;

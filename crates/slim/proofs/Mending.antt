@@ -1,5 +1,5 @@
 -- Back over the items of an epoch in the output: what holds at each turn of the loop. Assumes nothing.
-use Prim.Native.Nat.{ℕ, suc, _+_, _-_, _*_, _^_, _≤_, _<_}
+use Prim.Native.Nat.{ℕ, suc, _+_, _-_, _*_, _≤_, _<_}
 use mathlib.Core.Path.{_≡_, refl, sym, ap, _∙_}
 use mathlib.Core.Logic.{_≢_}
 use mathlib.Core.Bool.{true, false, not, _||_, _&&_, or-false, or-true}
@@ -15,7 +15,6 @@ use Rattle.pages.proofs.Added.{has-join}
 use Rattle.pages.proofs.Table.{place-within, place-same}
 use Rattle.trace.specs.Layout.{itemAt, encodeItem, encodeItems}
 use Rattle.trace.specs.declared.Item.{Item}
-use Rattle.trace.proofs.Items.{length-encodeItems}
 use Rattle.trace.proofs.Output.{wrote-item, wrote-again}
 use Rattle.filter.specs.Filter.{flagIs, placeIf}
 use Rattle.slim.specs.Epochs.{pages}
@@ -163,7 +162,8 @@ module _ {filter flags₀ : List ℕ} {held from to : ℕ} {out₀ flags out : L
         let w = b .back in
         let ws = settled owed w in
         let are : u ≡ v ++ (y ∷ w) = b .are ∙ ap (λ (l : List Item). l ++ w) (g .are) ∙ append-assoc v (y ∷ []) w in
-        let bytes : out ≡ sets old (23 + 19 * from) (encodeItems (v ++ (y ∷ ws))) = b .wrote ∙ ap (λ (l : List Item). sets old (23 + 19 * from) (encodeItems l)) (ap (λ (l : List Item). l ++ ws) (g .are) ∙ append-assoc v (y ∷ []) ws) in
+        let spread : b .before ++ ws ≡ v ++ (y ∷ ws) = ap (λ (l : List Item). l ++ ws) (g .are) ∙ append-assoc v (y ∷ []) ws in
+        let bytes : out ≡ sets old (23 + 19 * from) (encodeItems (v ++ (y ∷ ws))) = b .wrote ∙ ap (λ (l : List Item). sets old (23 + 19 * from) (encodeItems l)) spread in
         let lb : length (b .before) ≡ length v + 1 = ap length (g .are) ∙ length-append v (y ∷ []) in
         let lu : length u ≡ length v + suc (length w) = ap length are ∙ length-append v (y ∷ w) in
         let ls = length-settled owed w in
@@ -173,7 +173,8 @@ module _ {filter flags₀ : List ℕ} {held from to : ℕ} {out₀ flags out : L
         let at : k - 1 ≡ from + length v = omega (arith, b .at) in
         let back : itemAt out (k - 1) ≡ y = rw at (wrote-item from v ws old long y (fit .0) (fit .1) bytes) in
         let q : x ≡ y = e ∙ back in
-        let l : has (y .page) (pages (v ++ (y ∷ w))) ≡ true = rw (pages-join v (y ∷ w), has-join (y .page) (pages v) (y .page ∷ pages w), eqb-self (y .page)) (or-true (has (y .page) (pages v))) in
+        let l : has (y .page) (pages (v ++ (y ∷ w))) ≡ true =
+        rw (pages-join v (y ∷ w), has-join (y .page) (pages v) (y .page ∷ pages w), eqb-self (y .page)) (or-true (has (y .page) (pages v))) in
         let p : has (y .page) (pages u) ≡ true = ap (λ (t : List Item). has (y .page) (pages t)) are ∙ l in
         record {
           front = v;

@@ -254,8 +254,9 @@ module _ {file : List ℕ} {n : ℕ} {mode : Mode} {size : ℕ} {last₀ heads�
             rw (filter-is, has-touched p F t)
             (split (has p (pages t))
             (λ e. rw e (or-true (has p F)))
-            (λ e. let z : has p (pages (s .here)) ≡ true =
-            rw (pages-join (s .here) (kept Demand F t), has-join p (pages (s .here)) (pages (kept Demand F t)), kept-pages Demand p F t, e, or-false (has p (pages (s .here)))) at h in
+            (λ e. let joined = has-join p (pages (s .here)) (pages (kept Demand F t)) in
+            let z : has p (pages (s .here)) ≡ true =
+            rw (pages-join (s .here) (kept Demand F t), joined, kept-pages Demand p F t, e, or-false (has p (pages (s .here)))) at h in
             rw (s .known p z)))
 
         now-owes : Owes (pagesIn file last′ (r .held)) owed′ now-owing
@@ -293,8 +294,9 @@ module _ {file : List ℕ} {n : ℕ} {mode : Mode} {size : ℕ} {last₀ heads�
         now-next = rw (filter-is, ← stretch-eq, ← beyond-eq) (stretch-next mode size (s .can .some) (pagesIn file last held) (itemsFrom file i (n - i)) (s .ready))
 
         -- The filter is full: the epoch is mended, and the filter emptied.
-        pub slimming-full : r .held ≡ size → {owed″ out″ : List ℕ} → Mended (pagesIn file last′ (r .held)) owed′ past m′ out′ out″ → length owed″ ≡ length owed′
-            → {base′ : ℕ} {heads″ : List ℕ} → Holds file last′ 0 base′ heads″ next′ [] → length heads″ ≡ length heads′
+        pub slimming-full : r .held ≡ size → {owed″ out″ : List ℕ} → Mended (pagesIn file last′ (r .held)) owed′ past m′ out′ out″
+            → length owed″ ≡ length owed′ → {base′ : ℕ} {heads″ : List ℕ}
+            → Holds file last′ 0 base′ heads″ next′ [] → length heads″ ≡ length heads′
             → Slimming file n mode size last₀ heads₀ next₀ owed₀ out₀ last′ heads″ next′ owed″ out″ (r .end) 0 base′ m′ m′ 0
         unfolding pagesOf has pages flagsSet
         slimming-full f {owed″} {out″} me ol′ a hl′ =
@@ -384,7 +386,8 @@ module _ {file : List ℕ} {n : ℕ} {mode : Mode} {size : ℕ} {last₀ heads�
       let long = length-append (s .done) (settled (s .owing) (s .here)) in
       omega (arith, s .count, s .past-is, ap length all-kept, long, length-settled (s .owing) (s .here))
 
-  pub slimming-bytes : {out′ : List ℕ} → Mended (pagesIn file last held) owed past m out out′ → out′ ≡ sets out₀ 23 (encodeItems (reduce mode size (itemsFrom file 0 n)))
+  pub slimming-bytes : {out′ : List ℕ} → Mended (pagesIn file last held) owed past m out out′
+      → out′ ≡ sets out₀ 23 (encodeItems (reduce mode size (itemsFrom file 0 n)))
   slimming-bytes {out′} me =
       let stand : Stand (pagesIn file last held) owed past m out (s .mid) (s .here) (s .owing) =
       record { wrote = s .wrote-here .bytes-are; count = s .count; fit = s .fit; known = s .known; owes = s .owes } in

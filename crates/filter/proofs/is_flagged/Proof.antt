@@ -1,7 +1,6 @@
 -- `filter::is_flagged` meets its contract. Assumes nothing.
 use borrow.Author.Needs.{needs}
 use borrow.Author.Tests.{not-true, not-false}
-use Rattle.filter.proofs.Noting.{page-read}
 use Rattle.filter.proofs.Flagged.{both-not, both-so}
 use Rattle.filter.proofs.is_flagged.Statement.{statement}
 use Rattle.filter.proofs.is_flagged.Tie as tie

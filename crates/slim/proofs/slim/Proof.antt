@@ -46,7 +46,9 @@ may-mend c κs =
 -- and its filter emptied.
 may-empty : tie.Need-empty-requires Inv-loop μ-loop
 may-empty c κs =
-    let looked = c .before .before .before .before .before .before .before .before .before .before .before .before .before .before .before .before .before .before .before .before .before .before .before .before .before .before .before .before .before .before in
+    let mended = c .before .before .before .before .before .before .before in
+    let wrote = mended .before .before .before .before .before .before .before .before .before .before .before in
+    let looked = wrote .before .before .before .before .before .before .before .before .before .before .before .before in
     let sized = looked .before .before .before .before in
     let turn = sized .before in
     let same = looked .look .kept .1 .1 .1 .1 in
@@ -56,7 +58,9 @@ may-empty c κs =
 -- Fewer items are left after a stretch that ends an epoch, and the next begins with no page;
 moves-full : tie.Need-loop-less Inv-loop μ-loop
 moves-full c =
-    let looked = c .before .before .before .before .before .before .before .before .before .before .before .before .before .before .before .before .before .before .before .before .before .before .before .before .before .before .before .before .before .before .before .before .before in
+    let mended = c .before .before .before .before .before .before .before .before .before .before in
+    let wrote = mended .before .before .before .before .before .before .before .before .before .before .before in
+    let looked = wrote .before .before .before .before .before .before .before .before .before .before .before .before in
     let sized = looked .before .before .before .before in
     let turn = sized .before in
     let same = looked .look .kept .1 .1 .1 .1 in
