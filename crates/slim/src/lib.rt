@@ -305,11 +305,12 @@ fn slim(
     while i < n {
         let most = limit_of(mode, size, held);
         let s = look(file, n, i, most, last, base, heads, next, held);
+        let end = s.end;
         let c = s.held;
         let t = keep(
             file,
             i,
-            s.end,
+            end,
             last,
             c,
             base,
@@ -321,7 +322,7 @@ fn slim(
             owed,
             due,
         );
-        i = s.end;
+        i = end;
         m = t.done;
         due = t.owing;
         if c == size {
