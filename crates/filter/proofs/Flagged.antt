@@ -35,9 +35,30 @@ module _ {b : Bool} (x : Bool) (q : b ≡ x) (y : Bool) where
   pub both-so : b ≡ true → y ≡ x && y
   both-so e = rw (← q, e)
 
+-- A place that is one of those held, or not.
+module _ (x : Bool) {j held : ℕ} (w : j ≤ held) where
+  pub place-beyond : held ≤ j → held ≡ cond x j held
+  place-beyond h = let e : j ≡ held = omega arith in split x (λ t. rw (t, e)) (λ t. rw t)
+
+  pub place-so : {b : Bool} → b ≡ x → b ≡ true → j ≡ cond x j held
+  place-so q t = rw (← q, t)
+
+  pub place-not : {b : Bool} → b ≡ x → b ≡ false → held ≡ cond x j held
+  place-not q t = rw (← q, t)
+
 -- What a place counts for: one more than its page, if its flag is as is asked.
 abbrev flaggedAt : Bool → List ℕ → List ℕ → ℕ → ℕ
 flaggedAt on flags l j = cond (flagIs on (getD flags j 0)) (suc (at l j)) 0
+
+-- The place of a page is one of those held, or none.
+pub place-held : {file last : List ℕ} {held base : ℕ} {heads next l : List ℕ} → Holds file last held base heads next l → (p : ℕ) {j : ℕ} → j ≡ place p l → j ≤ held
+place-held {l = l} f p e = omega (arith, place-most p l, notes-long (f .notes))
+
+-- The place that all places in turn give, and its flag.
+pub flagged-scan : {file last : List ℕ} {held base : ℕ} {heads next l : List ℕ} → Holds file last held base heads next l → (on : Bool) (flags : List ℕ) (p : ℕ)
+    {j : ℕ} → j ≡ place p l → {r : ℕ} → r ≡ cond (flagIs on (getD flags j 0)) j held → r ≡ placeIf on flags p l
+unfolding placeIf
+flagged-scan f on flags p e q = q ∙ rw (e, notes-long (f .notes))
 
 -- A search along the chain of page p for a place that has it, and such a flag.
 pub record Asking (on : Bool) (flags l : List ℕ) (held p e : ℕ) : Type 0 where

@@ -1,7 +1,7 @@
 // The reducer's filter, in 8 KiB: a four-byte item number for each page that it holds, and chains of two-byte places to find a page by.
 ghost use mathlib.Core.Path.{_≡_};
 ghost use Prim.Native.Nat.{_+_, _*_, _≤_, _<_};
-ghost use mathlib.Core.Bool.{true, _&&_};
+ghost use mathlib.Core.Bool.{true, cond, _&&_};
 ghost use mathlib.Core.List.{[]};
 ghost use lib.ListN.{length, getD, take, set};
 ghost use lib.Dec.{eqb};
@@ -132,8 +132,22 @@ fn is_flagged(file: &[u8], last: &[u32], flags: &[u8], on: bool, page: u64, j: u
     page_at(file, last, j) == page
 }
 
-// The place of a page in the filter if its flag is as is asked, or how many pages the filter holds. However long the chain is it is followed:
-// where flags are others no page is read, and a link then costs no more than a place.
+// Place j if it is one of those held and its flag is as is asked, or how many there are.
+fn if_flagged(flags: &[u8], on: bool, held: usize, j: usize) -> usize
+    requires { ⌜ held ≤ length (now flags) ⌝ }
+    requires { ⌜ j ≤ held ⌝ }
+    ensures { λ r. ⌜ r ≡ cond (flagIs on (getD (now (flags .entry)) j 0)) j held ⌝ }
+{
+    if held <= j {
+        return held;
+    }
+    if flag_is(flags, on, j) {
+        return j;
+    }
+    held
+}
+
+// The place of a page in the filter if its flag is as is asked, or how many pages the filter holds.
 pub fn find_flagged(
     file: &[u8],
     last: &[u32],
@@ -149,11 +163,16 @@ pub fn find_flagged(
     requires { ⌜ held ≤ length (now flags) ⌝ }
     ensures { λ r. ⌜ r ≡ placeIf on (now (flags .entry)) page (pagesIn (now (file .entry)) (now (last .entry)) held) ⌝ }
 {
+    let mut left = LINKS;
     let mut d = chains::head(base, heads, bucket(page));
     while 0 < d {
         if is_flagged(file, last, flags, on, page, d - 1) {
             return d - 1;
         }
+        if left == 0 {
+            return if_flagged(flags, on, held, scan(file, last, held, page));
+        }
+        left -= 1;
         d = chains::link(next, d - 1);
     }
     held
