@@ -15,6 +15,8 @@ use Rattle.filter.proofs.find.Kinds as find
 use Rattle.filter.proofs.find.Reads.{Post as find-post}
 use Rattle.filter.proofs.find_flagged.Kinds as find-flagged
 use Rattle.filter.proofs.find_flagged.Reads.{Post as find-flagged-post}
+use Rattle.filter.proofs.find_unflagged.Kinds as find-unflagged
+use Rattle.filter.proofs.find_unflagged.Reads.{Post as find-unflagged-post}
 use Rattle.filter.proofs.is_at.Kinds as is-at
 use Rattle.filter.proofs.is_at.Reads.{Post as is-at-post}
 use Rattle.filter.proofs.add.Kinds as add
@@ -27,6 +29,9 @@ find-once κs args x y s t p q = p ∙ sym q
 
 pub find-flagged-once : OneResult find-flagged.ps find-flagged.r find-flagged-post
 find-flagged-once κs args x y s t p q = p ∙ sym q
+
+pub find-unflagged-once : OneResult find-unflagged.ps find-unflagged.r find-unflagged-post
+find-unflagged-once κs args x y s t p q = p ∙ sym q
 
 pub is-at-once : OneResult is-at.ps is-at.r is-at-post
 is-at-once κs args x y s t p q = p ∙ sym q

@@ -1,7 +1,7 @@
 // The reducer's filter, in 8 KiB: a four-byte item number for each page that it holds, and chains of two-byte places to find a page by.
 ghost use mathlib.Core.Path.{_≡_};
 ghost use Prim.Native.Nat.{_+_, _*_, _≤_, _<_};
-ghost use mathlib.Core.Bool.{true, cond, _&&_};
+ghost use mathlib.Core.Bool.{true, false, cond, _&&_};
 ghost use mathlib.Core.List.{[]};
 ghost use lib.ListN.{length, getD, take, set};
 ghost use lib.Dec.{eqb};
@@ -147,7 +147,7 @@ fn if_flagged(flags: &[u8], on: bool, held: usize, j: usize) -> usize
     held
 }
 
-// The place of a page in the filter if its flag is as is asked, or how many pages the filter holds.
+// The place of a page in the filter if its flag is set, or how many pages the filter holds.
 pub fn find_flagged(
     file: &[u8],
     last: &[u32],
@@ -156,21 +156,50 @@ pub fn find_flagged(
     heads: &[u16],
     next: &[u16],
     flags: &[u8],
-    on: bool,
     page: u64,
 ) -> usize
     requires { ⌜ IsFilter (now file) (now last) held base (now heads) (now next) ⌝ }
     requires { ⌜ held ≤ length (now flags) ⌝ }
-    ensures { λ r. ⌜ r ≡ placeIf on (now (flags .entry)) page (pagesIn (now (file .entry)) (now (last .entry)) held) ⌝ }
+    ensures { λ r. ⌜ r ≡ placeIf true (now (flags .entry)) page (pagesIn (now (file .entry)) (now (last .entry)) held) ⌝ }
 {
     let mut left = LINKS;
     let mut d = chains::head(base, heads, bucket(page));
     while 0 < d {
-        if is_flagged(file, last, flags, on, page, d - 1) {
+        if is_flagged(file, last, flags, true, page, d - 1) {
             return d - 1;
         }
         if left == 0 {
-            return if_flagged(flags, on, held, scan(file, last, held, page));
+            return if_flagged(flags, true, held, scan(file, last, held, page));
+        }
+        left -= 1;
+        d = chains::link(next, d - 1);
+    }
+    held
+}
+
+// The same if its flag is not set. These are two functions, each with one caller, so that the compiler puts each into its caller's loop.
+pub fn find_unflagged(
+    file: &[u8],
+    last: &[u32],
+    held: usize,
+    base: usize,
+    heads: &[u16],
+    next: &[u16],
+    flags: &[u8],
+    page: u64,
+) -> usize
+    requires { ⌜ IsFilter (now file) (now last) held base (now heads) (now next) ⌝ }
+    requires { ⌜ held ≤ length (now flags) ⌝ }
+    ensures { λ r. ⌜ r ≡ placeIf false (now (flags .entry)) page (pagesIn (now (file .entry)) (now (last .entry)) held) ⌝ }
+{
+    let mut left = LINKS;
+    let mut d = chains::head(base, heads, bucket(page));
+    while 0 < d {
+        if is_flagged(file, last, flags, false, page, d - 1) {
+            return d - 1;
+        }
+        if left == 0 {
+            return if_flagged(flags, false, held, scan(file, last, held, page));
         }
         left -= 1;
         d = chains::link(next, d - 1);

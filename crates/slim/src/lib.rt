@@ -135,7 +135,7 @@ fn owe(
     ensures { λ r. ⌜ r ≡ cond (eqb (getD (now (owed .entry)) (place page (pagesIn (now (file .entry)) (now (last .entry)) held)) 0) 1) owing (owing + 1) ⌝ }
     ensures { λ _. ⌜ now (owed .exit) ≡ set (now (owed .entry)) (place page (pagesIn (now (file .entry)) (now (last .entry)) held)) 1 ⌝ }
 {
-    let j = filter::find_flagged(file, last, held, base, heads, next, owed, false, page);
+    let j = filter::find_unflagged(file, last, held, base, heads, next, owed, page);
     if held <= j {
         return owing;
     }
@@ -227,7 +227,7 @@ fn mend(
         }
         let a = k - 1;
         let x = trace::read::item_at(out, a);
-        let j = filter::find_flagged(file, last, held, base, heads, next, owed, true, x.page);
+        let j = filter::find_flagged(file, last, held, base, heads, next, owed, x.page);
         if j < held {
             owed[j] = 0;
             left -= 1;

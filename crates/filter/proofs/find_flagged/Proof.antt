@@ -1,4 +1,5 @@
 -- `filter::find_flagged` meets its contract. Assumes nothing.
+use mathlib.Core.Bool.{true}
 use borrow.Author.Needs.{needs}
 use Rattle.filter.specs.Filter.{pagesIn}
 use Rattle.filter.proofs.Finding.{find-bucket}
@@ -8,10 +9,10 @@ use Rattle.filter.proofs.find_flagged.Statement.{statement}
 use Rattle.filter.proofs.find_flagged.Tie as tie
 
 abbrev Inv-loop : tie.InvT-loop
-Inv-loop file last held base heads next flags on page left₀ d₀ left d = Asking on flags (pagesIn file last held) held page d
+Inv-loop file last held base heads next flags page left₀ d₀ left d = Asking true flags (pagesIn file last held) held page d
 
 abbrev μ-loop : tie.MeasureT-loop
-μ-loop file last held base heads next flags on page left₀ d₀ left d = d
+μ-loop file last held base heads next flags page left₀ d₀ left d = d
 
 -- The place in hand can be asked.
 may-ask : tie.Need-is-flagged-requires Inv-loop μ-loop
@@ -36,7 +37,7 @@ may-tell c κs =
 told : tie.Need-returns-2 Inv-loop μ-loop
 told c =
     let start = c .before .before .before .before .before .before .before .before .before .before .before .before .before .before in
-    flagged-scan (start .pre .0) _ _ _ (c .before .scan .ensures) (c .if-flagged .ensures)
+    flagged-scan (start .pre .0) true _ _ (c .before .scan .ensures) (c .if-flagged .ensures)
 
 -- The search goes on,
 more : tie.Need-loop-again Inv-loop μ-loop

@@ -8,13 +8,13 @@ use Rattle.slim.proofs.owe.Tie as tie
 kept : tie.Need-returns
 kept c =
     let start = c .before .before .before .before .before .before .before .before in
-    flag-kept (start .pre .0) _ _ (c .before .find-flagged .ensures) (start .pre .1 .0) _ (c .if1 .taken)
+    flag-kept (start .pre .0) _ _ (c .before .find-unflagged .ensures) (start .pre .1 .0) _ (c .if1 .taken)
 
 -- or is owed one now.
 now : tie.Need-returns-2
 now c =
     let start = c .before .before .before .before .before .before .before .before in
-    flag-set (start .pre .0) _ _ (c .before .find-flagged .ensures) _ (c .if1 .left)
+    flag-set (start .pre .0) _ _ (c .before .find-unflagged .ensures) _ (c .if1 .left)
 
 pub owe-spec : {M : Type 1} → statement M
 owe-spec =
