@@ -244,7 +244,7 @@ fn mend(
     }
 }
 
-// An epoch ends: its items are mended if one of its pages is owed a write.
+// An epoch ends: its items are mended if one of its pages is owed a write. Else nothing is called, which short epochs would feel.
 fn end_epoch(
     file: &[u8],
     last: &[u32],
@@ -335,7 +335,7 @@ fn slim(
             held = c;
         }
     }
-    end_epoch(file, last, held, base, heads, next, out, past, m, owed, due);
+    mend(file, last, held, base, heads, next, out, past, m, owed, due);
     m
 }
 

@@ -104,7 +104,7 @@ goes-else c =
     (wrote .keep .ensures .0) (wrote .keep .ensures .1 .0) (wrote .keep .ensures .1 .1) (wrote .keep .kept .1 .1 .1 .1 .1 .1 .1 .1 .1 .1 .1 .0) (c .if1 .left)
 
 -- The items of the last epoch may be mended,
-may-end : tie.Need-end-epoch-requires-2 Inv-loop μ-loop
+may-end : tie.Need-mend-requires Inv-loop μ-loop
 may-end c κs =
     let test = c .before .before .before .before .before in
     let at = test .before .loop .inv in
@@ -116,7 +116,7 @@ returns c =
     let mended = c .before .before .before .before in
     let test = mended .before .before .before .before .before .before in
     let at = test .before .loop .inv in
-    (slimming-count at (test .loop-test .left), slimming-bytes at (test .loop-test .left) (mended .end-epoch2 .ensures))
+    (slimming-count at (test .loop-test .left), slimming-bytes at (test .loop-test .left) (mended .mend .ensures))
 
 pub slim-spec : {M : Type 1} → statement M
 slim-spec =
