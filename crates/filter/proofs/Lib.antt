@@ -3,3 +3,4 @@ pub mod Finding
 pub mod Flagged
 pub mod Filling
 pub mod Once
+pub mod Bits

@@ -9,7 +9,7 @@ use borrow.Author.Tests.{eqb-false}
 use denote.Ref.{now}
 use Rattle.pages.proofs.Choice.{split, same}
 use Rattle.pages.proofs.Once.{OneResult, OneBuffer}
-use Rattle.filter.specs.Filter.{FirstNoted}
+use Rattle.filter.specs.Filter.{flagsOf, FirstNoted}
 use Rattle.filter.proofs.Finding.{first-after}
 use Rattle.filter.proofs.find.Kinds as find
 use Rattle.filter.proofs.find.Reads.{Post as find-post}
@@ -17,6 +17,8 @@ use Rattle.filter.proofs.find_flagged.Kinds as find-flagged
 use Rattle.filter.proofs.find_flagged.Reads.{Post as find-flagged-post}
 use Rattle.filter.proofs.find_unflagged.Kinds as find-unflagged
 use Rattle.filter.proofs.find_unflagged.Reads.{Post as find-unflagged-post}
+use Rattle.filter.proofs.put_flag.Kinds as put-flag
+use Rattle.filter.proofs.put_flag.Reads.{Post as put-flag-post}
 use Rattle.filter.proofs.is_at.Kinds as is-at
 use Rattle.filter.proofs.is_at.Reads.{Post as is-at-post}
 use Rattle.filter.proofs.add.Kinds as add
@@ -32,6 +34,9 @@ find-flagged-once κs args x y s t p q = p ∙ sym q
 
 pub find-unflagged-once : OneResult find-unflagged.ps find-unflagged.r find-unflagged-post
 find-unflagged-once κs args x y s t p q = p ∙ sym q
+
+pub put-flag-once : OneBuffer put-flag.ps put-flag.r put-flag-post (λ κs s. flagsOf (now (s .0)))
+put-flag-once κs args x y s t p q = p ∙ sym q
 
 pub is-at-once : OneResult is-at.ps is-at.r is-at-post
 is-at-once κs args x y s t p q = p ∙ sym q

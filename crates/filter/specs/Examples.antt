@@ -7,7 +7,7 @@ use Rattle.trace.specs.Layout.{field, encodeHeader, encodeItem, encodeItems, en
 use Rattle.trace.specs.Examples.{fileT}
 use Rattle.pages.specs.Pages.{place}
 use Rattle.chains.specs.Chains.{mixed}
-use Rattle.filter.specs.Filter.{pagesOf, pagesIn, bucketOf, flagIs, placeIf, fitsAbove, emptyBase, emptyHeads}
+use Rattle.filter.specs.Filter.{pagesOf, pagesIn, bucketOf, flagsOf, flagIs, placeIf, fitsAbove, emptyBase, emptyHeads}
 
 -- After T's first five items a filter that notes items 4 and 3 holds pages 1 and 2; a third place, which is not held, may say anything.
 pages-held : pagesIn fileT (4 ∷ 3 ∷ 77 ∷ []) 2 ≡ 1 ∷ 2 ∷ []
@@ -35,6 +35,11 @@ emptied-clear = refl
 heads-cleared : emptyHeads 63488 1024 1024 (5 ∷ 64511 ∷ []) ≡ 0 ∷ 0 ∷ []
 unfolding fitsAbove emptyHeads
 heads-cleared = refl
+
+-- Three bytes hold the flags of six places: of these the second, the third and the fourth are set.
+two-a-byte : flagsOf (2 ∷ 3 ∷ 0 ∷ []) ≡ 0 ∷ 1 ∷ 1 ∷ 1 ∷ 0 ∷ 0 ∷ []
+unfolding flagsOf
+two-a-byte = refl
 
 -- Of pages 5, 6 and 7 page 6 alone is flagged: it is found where a flag is asked for, and the two others where none is.
 flagged : map (λ p. placeIf true (0 ∷ 1 ∷ 0 ∷ []) p (5 ∷ 6 ∷ 7 ∷ [])) (5 ∷ 6 ∷ 7 ∷ []) ≡ 3 ∷ 1 ∷ 3 ∷ []

@@ -2,7 +2,7 @@
 use Prim.Native.Nat.{ℕ, _+_, _*_, _/_, _%_, _≤_, _<_}
 use mathlib.Core.Path.{_≡_}
 use mathlib.Core.Bool.{Bool, true, false, cond, not}
-use mathlib.Core.List.{List, map}
+use mathlib.Core.List.{List, [], _∷_, map}
 use lib.ListN.{length, getD, take, replicate}
 use lib.Dec.{ltb, eqb}
 use Rattle.pages.specs.Pages.{has, place, Distinct}
@@ -74,6 +74,11 @@ pub record FirstNoted (items : List ℕ) (k r : ℕ) : Type 0 where
   pub here : r ≡ k → has k items ≡ true
 
 -- ---- flags, one for each place
+
+-- The flags in a row of bytes: two in a byte, so that a filter's take half a byte a place.
+unfoldable pub flagsOf : List ℕ → List ℕ
+flagsOf [] = []
+flagsOf (b ∷ bs) = b % 2 ∷ b / 2 % 2 ∷ flagsOf bs
 
 -- Whether a flag is 1, or is not, as is asked.
 unfoldable pub flagIs : Bool → ℕ → Bool

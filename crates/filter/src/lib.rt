@@ -8,7 +8,7 @@ ghost use lib.Dec.{eqb};
 ghost use Rattle.pages.specs.Pages.{has, add as added, place};
 ghost use Rattle.trace.specs.Layout.{itemAt};
 ghost use Rattle.chains.specs.Chains.{headsWith, nextWith};
-ghost use Rattle.filter.specs.Filter.{pagesIn, Stands, Notes, buckets, bucketOf, Holds, IsFilter, CanAdd, FirstNoted, flagIs, placeIf, emptyBase, emptyHeads};
+ghost use Rattle.filter.specs.Filter.{pagesIn, Stands, Notes, buckets, bucketOf, Holds, IsFilter, CanAdd, FirstNoted, flagIs, placeIf, emptyBase, emptyHeads, flagsOf};
 
 // How many heads there are. 1,024 of two bytes, with 1,024 places of four and two, make 8 KiB.
 pub const BUCKETS: usize = 1024;
@@ -109,22 +109,47 @@ pub fn find(
     held
 }
 
+// The flag of place j.
+fn flag_at(flags: &[u8], j: usize) -> u8
+    requires { ⌜ j < length (flagsOf (now flags)) ⌝ }
+    ensures { λ r. ⌜ r ≡ getD (flagsOf (now (flags .entry))) j 0 ⌝ }
+{
+    let b = flags[j / 2];
+    if j % 2 == 0 { b % 2 } else { b / 2 % 2 }
+}
+
+// Place j gets the flag v. Two flags share a byte: with a byte each the reducer would not keep to 9 KiB of stack.
+pub fn put_flag(flags: &mut [u8], j: usize, v: u8)
+    requires { ⌜ j < length (flagsOf (now flags)) ⌝ }
+    requires { ⌜ v ≤ 1 ⌝ }
+    ensures { λ _. ⌜ flagsOf (now (flags .exit)) ≡ set (flagsOf (now (flags .entry))) j v ⌝ }
+{
+    let i = j / 2;
+    let b = flags[i];
+    if j % 2 == 0 {
+        flags[i] = b / 2 % 2 * 2 + v;
+    } else {
+        flags[i] = b % 2 + 2 * v;
+    }
+}
+
 // Whether the flag of place j is as is asked.
 fn flag_is(flags: &[u8], on: bool, j: usize) -> bool
-    requires { ⌜ j < length (now flags) ⌝ }
-    ensures { λ r. ⌜ r ≡ flagIs on (getD (now (flags .entry)) j 0) ⌝ }
+    requires { ⌜ j < length (flagsOf (now flags)) ⌝ }
+    ensures { λ r. ⌜ r ≡ flagIs on (getD (flagsOf (now (flags .entry))) j 0) ⌝ }
 {
+    let f = flag_at(flags, j);
     if on {
-        return flags[j] == 1;
+        return f == 1;
     }
-    flags[j] != 1
+    f != 1
 }
 
 // Whether place j has the page, and a flag as is asked. The flag is looked at first: the page has to be read from the file.
 fn is_flagged(file: &[u8], last: &[u32], flags: &[u8], on: bool, page: u64, j: usize) -> bool
     requires { ⌜ Stands (now file) (now last) j ⌝ }
-    requires { ⌜ j < length (now flags) ⌝ }
-    ensures { λ r. ⌜ r ≡ flagIs on (getD (now (flags .entry)) j 0) && eqb (itemAt (now (file .entry)) (getD (now (last .entry)) j 0) .page) page ⌝ }
+    requires { ⌜ j < length (flagsOf (now flags)) ⌝ }
+    ensures { λ r. ⌜ r ≡ flagIs on (getD (flagsOf (now (flags .entry))) j 0) && eqb (itemAt (now (file .entry)) (getD (now (last .entry)) j 0) .page) page ⌝ }
 {
     if !flag_is(flags, on, j) {
         return false;
@@ -134,9 +159,9 @@ fn is_flagged(file: &[u8], last: &[u32], flags: &[u8], on: bool, page: u64, j: u
 
 // Place j if it is one of those held and its flag is as is asked, or how many there are.
 fn if_flagged(flags: &[u8], on: bool, held: usize, j: usize) -> usize
-    requires { ⌜ held ≤ length (now flags) ⌝ }
+    requires { ⌜ held ≤ length (flagsOf (now flags)) ⌝ }
     requires { ⌜ j ≤ held ⌝ }
-    ensures { λ r. ⌜ r ≡ cond (flagIs on (getD (now (flags .entry)) j 0)) j held ⌝ }
+    ensures { λ r. ⌜ r ≡ cond (flagIs on (getD (flagsOf (now (flags .entry))) j 0)) j held ⌝ }
 {
     if held <= j {
         return held;
@@ -159,8 +184,8 @@ pub fn find_flagged(
     page: u64,
 ) -> usize
     requires { ⌜ IsFilter (now file) (now last) held base (now heads) (now next) ⌝ }
-    requires { ⌜ held ≤ length (now flags) ⌝ }
-    ensures { λ r. ⌜ r ≡ placeIf true (now (flags .entry)) page (pagesIn (now (file .entry)) (now (last .entry)) held) ⌝ }
+    requires { ⌜ held ≤ length (flagsOf (now flags)) ⌝ }
+    ensures { λ r. ⌜ r ≡ placeIf true (flagsOf (now (flags .entry))) page (pagesIn (now (file .entry)) (now (last .entry)) held) ⌝ }
 {
     let mut left = LINKS;
     let mut d = chains::head(base, heads, bucket(page));
@@ -189,8 +214,8 @@ pub fn find_unflagged(
     page: u64,
 ) -> usize
     requires { ⌜ IsFilter (now file) (now last) held base (now heads) (now next) ⌝ }
-    requires { ⌜ held ≤ length (now flags) ⌝ }
-    ensures { λ r. ⌜ r ≡ placeIf false (now (flags .entry)) page (pagesIn (now (file .entry)) (now (last .entry)) held) ⌝ }
+    requires { ⌜ held ≤ length (flagsOf (now flags)) ⌝ }
+    ensures { λ r. ⌜ r ≡ placeIf false (flagsOf (now (flags .entry))) page (pagesIn (now (file .entry)) (now (last .entry)) held) ⌝ }
 {
     let mut left = LINKS;
     let mut d = chains::head(base, heads, bucket(page));

@@ -1,7 +1,7 @@
 -- `filter::find_flagged` meets its contract. Assumes nothing.
 use mathlib.Core.Bool.{true}
 use borrow.Author.Needs.{needs}
-use Rattle.filter.specs.Filter.{pagesIn}
+use Rattle.filter.specs.Filter.{pagesIn, flagsOf}
 use Rattle.filter.proofs.Finding.{find-bucket}
 use Rattle.filter.proofs.Flagged.{Asking, place-held, flagged-scan, flagged-none, flagged-end, flagged-stands, flagged-flag}
 use Rattle.filter.proofs.Flagged.{flagged-next, flagged-less, flagged-here, flagged-more}
@@ -9,7 +9,7 @@ use Rattle.filter.proofs.find_flagged.Statement.{statement}
 use Rattle.filter.proofs.find_flagged.Tie as tie
 
 abbrev Inv-loop : tie.InvT-loop
-Inv-loop file last held base heads next flags page left₀ d₀ left d = Asking true flags (pagesIn file last held) held page d
+Inv-loop file last held base heads next flags page left₀ d₀ left d = Asking true (flagsOf flags) (pagesIn file last held) held page d
 
 abbrev μ-loop : tie.MeasureT-loop
 μ-loop file last held base heads next flags page left₀ d₀ left d = d

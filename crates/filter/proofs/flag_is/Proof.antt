@@ -8,7 +8,6 @@ pub flag-is-spec : {M : Type 1} → statement M
 flag-is-spec =
     tie.close
     (tie.spec
-    (λ c. search needs)
-    (λ c. search flag-on)
-    (λ c. search needs)
-    (λ c. search flag-off))
+    (λ c κs. search needs)
+    (λ c. rw (← c .before .flag-at .ensures) (search flag-on))
+    (λ c. rw (← c .before .flag-at .ensures) (search flag-off)))
