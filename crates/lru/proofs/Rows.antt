@@ -1,4 +1,4 @@
--- A replay from the lent cache: its pages put in the rows, the items, and the resident pages told. Assumes nothing.
+-- A replay from the lent columns: their frames put in the rows, the items, and the resident frames told. Assumes nothing.
 use Prim.Native.Nat.{ℕ, _-_, _≤_}
 use mathlib.Core.Path.{_≡_, sym, ap, _∙_}
 use mathlib.Core.Bool.{Bool}
