@@ -1,15 +1,17 @@
 -- The loop over the stretches: what holds before each, and how a stretch carries it on. Assumes nothing.
 use Prim.Native.Nat.{ℕ, zero, suc, _+_, _-_, _*_, _≤_, _<_}
 use mathlib.Core.Path.{_≡_, refl, sym, ap, _∙_}
-use mathlib.Core.Bool.{true, or-false, or-true, false≢true}
+use mathlib.Core.Bool.{true, false, _||_, or-false, or-true, false≢true}
 use mathlib.Core.List.{List, [], _∷_, _++_, append-assoc, append-nil}
 use native.Mathlib.Nat.{sub-zero, zero-add}
 use native.Mathlib.Omega.{arith}
 use lib.ListN.{length, take, drop, length-append}
 use lib.Seq.{sets, drop-append-seam}
+use lib.Dec.{eqb}
+use borrow.Author.Tests.{eqb-false}
 use Rattle.pages.specs.Rows.{flat}
 use Rattle.pages.specs.Pages.{has, add}
-use Rattle.pages.proofs.Choice.{split}
+use Rattle.pages.proofs.Choice.{split, same, or-false as or-neither}
 use Rattle.pages.proofs.Added.{has-join}
 use Rattle.filter.specs.Filter.{pagesOf, pagesIn, Holds, IsFilter}
 use Rattle.filter.proofs.Noting.{notes-long}
@@ -28,7 +30,7 @@ use Rattle.slim.specs.declared.Mode.the-variants.{FastSlim, Demand}
 use Rattle.slim.specs.declared.Reach.{Reach}
 use Rattle.slim.proofs.Greedy.{cut-flat, has-touched}
 use Rattle.slim.proofs.Stretch.{reduceFrom, reduce-start, Ready, ready-start, stretch, beyond, emptied, emptied-full, emptied-else}
-use Rattle.slim.proofs.Stretch.{reduce-full, stretch-some, stretch-next, stretch-ready, stretch-kept}
+use Rattle.slim.proofs.Stretch.{reduce-over, reduce-full, stretch-some, stretch-next, stretch-ready, stretch-kept}
 use Rattle.slim.proofs.Through.{Next}
 use Rattle.slim.proofs.Kept.{kept-sub}
 use Rattle.slim.proofs.Order.{sub-length}
@@ -86,6 +88,7 @@ pub record Slimming (file : List ℕ) (n : ℕ) (mode : Mode) (size : ℕ) (last
   pub known : (p : ℕ) → has p (pages here) ≡ true → has p (pagesIn file last held) ≡ true
   pub owes : Owes (pagesIn file last held) owed owing
   pub left-is : left ≡ flagsSet held owed
+  pub over : n ≤ i → here ≡ []
   pub all : done ++ reduceFrom mode size (pagesIn file last held) owing here (itemsFrom file i (n - i)) ≡ reduce mode size (itemsFrom file 0 n)
 
 -- Nothing is done yet.
@@ -116,6 +119,7 @@ slimming-none file n mode size last heads next owed out c = record {
   known = λ p h. absurd (false≢true h);
   owes = owes-none owed;
   left-is = refl;
+  over = λ h. refl;
   all = rw (sub-zero, reduce-start mode size (itemsFrom file 0 n));
 }
 
@@ -293,18 +297,32 @@ module _ {file : List ℕ} {n : ℕ} {mode : Mode} {size : ℕ} {last₀ heads�
         now-next : Next (limit mode size (length (pagesIn file last held))) (pagesIn file last′ (r .held)) (itemsFrom file (r .end) (n - r .end))
         now-next = rw (filter-is, ← stretch-eq, ← beyond-eq) (stretch-next mode size (s .can .some) (pagesIn file last held) (itemsFrom file i (n - i)) (s .ready))
 
-        -- The filter is full: the epoch is mended, and the filter emptied.
-        pub slimming-full : r .held ≡ size → {owed″ out″ : List ℕ} → Mended (pagesIn file last′ (r .held)) owed′ past m′ out′ out″
+        -- An epoch ends with the stretch: the next begins with no page, and what is settled of the epoch stands before what is left.
+        now-over : eqb (r .held) size || eqb (r .end) n ≡ true → Ready mode size [] (itemsFrom file (r .end) (n - r .end))
+            × (reduceFrom mode size (pagesIn file last′ (r .held)) now-owing now-here (itemsFrom file (r .end) (n - r .end))
+            ≡ settled now-owing now-here ++ reduceFrom mode size [] [] [] (itemsFrom file (r .end) (n - r .end)))
+        now-over t =
+            let F = pagesIn file last′ (r .held) in
+            split (eqb (r .held) size)
+            (λ e. let f = same (r .held) size e in (
+              rw (← emptied-full size F (held-long ∙ f)) now-ready,
+              reduce-full size F mode (s .can .some) (limit mode size (length (pagesIn file last held))) now-owing now-here
+                  (itemsFrom file (r .end) (n - r .end)) (held-long ∙ f) now-next,
+            ))
+            (λ e. let z = same (r .end) n (rw e at t) in
+            let none : itemsFrom file (r .end) (n - r .end) ≡ [] = from-none file (omega arith) in
+            (rw none tt, rw none (reduce-over size F mode now-owing now-here)))
+
+        -- The epoch is mended, and the filter emptied.
+        pub slimming-full : eqb (r .held) size || eqb (r .end) n ≡ true → {owed″ out″ : List ℕ} → Mended (pagesIn file last′ (r .held)) owed′ past m′ out′ out″
             → length owed″ ≡ length owed′ → {base′ : ℕ} {heads″ : List ℕ}
             → Holds file last′ 0 base′ heads″ next′ [] → length heads″ ≡ length heads′
             → Slimming file n mode size last₀ heads₀ next₀ owed₀ out₀ last′ heads″ next′ owed″ out″ (r .end) 0 base′ m′ m′ 0
         unfolding pagesOf has pages flagsSet
-        slimming-full f {owed″} {out″} me ol′ a hl′ =
-            let F = pagesIn file last′ (r .held) in
+        slimming-full t {owed″} {out″} me ol′ a hl′ =
+            let (ready, settles) = now-over t in
             let wr : Wrote 0 (s .done ++ settled now-owing now-here) out₀ out″ =
             wrote-then (s .wrote-done) (s .past-is ∙ sym (zero-add (length (s .done)))) (record { bytes-are = me .settles (s .mid) now-here now-owing now-stand }) in
-            let full = reduce-full size F mode (s .can .some) (limit mode size (length (pagesIn file last held))) now-owing now-here
-            (itemsFrom file (r .end) (n - r .end)) (held-long ∙ f) now-next in
             record {
               can = s .can;
               within = w .ends;
@@ -315,7 +333,7 @@ module _ {file : List ℕ} {n : ℕ} {mode : Mode} {size : ℕ} {last₀ heads�
               owed-long = ol′ ∙ ol ∙ s .owed-long;
               out-long = wrote-long wr;
               filter = holds-in a;
-              ready = rw (← emptied-full size F (held-long ∙ f)) now-ready;
+              ready = ready;
               done = s .done ++ settled now-owing now-here;
               here = [];
               owing = [];
@@ -329,14 +347,17 @@ module _ {file : List ℕ} {n : ℕ} {mode : Mode} {size : ℕ} {last₀ heads�
               known = λ p h. absurd (false≢true h);
               owes = owes-none owed″;
               left-is = refl;
-              all = rw (append-assoc, ← full) now-all;
+              over = λ h. refl;
+              all = rw (append-assoc, ← settles) now-all;
             }
 
         -- It is not, and goes on.
-        pub slimming-else : (r .held ≡ size → ⊥)
+        pub slimming-else : eqb (r .held) size || eqb (r .end) n ≡ false
             → Slimming file n mode size last₀ heads₀ next₀ owed₀ out₀ last′ heads′ next′ owed′ out′ (r .end) (r .held) base past m′ left′
-        slimming-else f =
+        slimming-else t =
             let b = bounds in
+            let (f, g) = or-neither (eqb (r .held) size) (eqb (r .end) n) t in
+            let d = eqb-false (r .end) n g in
             record {
               can = s .can;
               within = w .ends;
@@ -347,7 +368,7 @@ module _ {file : List ℕ} {n : ℕ} {mode : Mode} {size : ℕ} {last₀ heads�
               owed-long = ol ∙ s .owed-long;
               out-long = wrote-long now-wrote ∙ wrote-long (s .wrote-done);
               filter = slimming-filter;
-              ready = rw (← emptied-else size (pagesIn file last′ (r .held)) (λ q. f (sym held-long ∙ q))) now-ready;
+              ready = rw (← emptied-else size (pagesIn file last′ (r .held)) (λ q. eqb-false (r .held) size f (sym held-long ∙ q))) now-ready;
               done = s .done;
               here = now-here;
               owing = now-owing;
@@ -361,6 +382,7 @@ module _ {file : List ℕ} {n : ℕ} {mode : Mode} {size : ℕ} {last₀ heads�
               known = now-known;
               owes = now-owes;
               left-is = now-left;
+              over = λ h. absurd (omega (arith, w .ends));
               all = now-all;
             }
 
@@ -368,29 +390,15 @@ module _ {file : List ℕ} {n : ℕ} {mode : Mode} {size : ℕ} {last₀ heads�
 
 module _ {file : List ℕ} {n : ℕ} {mode : Mode} {size : ℕ} {last₀ heads₀ next₀ owed₀ out₀ last heads next owed out : List ℕ} {i held base past m left : ℕ}
     (s : Slimming file n mode size last₀ heads₀ next₀ owed₀ out₀ last heads next owed out i held base past m left) (l : n ≤ i) where
-  -- The last epoch's items may be mended.
-  pub ended-mend : CanMend past m held left out owed
-  ended-mend = record {
-    within = omega (arith, s .count);
-    room = omega (arith, s .few, s .within, s .can .fits, s .out-long);
-    flags-long = omega (arith, s .owed-long, s .can .flags, s .holds);
-    owing-is = s .left-is;
-  }
-
-  all-kept : s .done ++ settled (s .owing) (s .here) ≡ reduce mode size (itemsFrom file 0 n)
-  unfolding reduceFrom cut kept lost flat
-  all-kept = simp append-nil at (rw (from-none file l) at (s .all))
+  all-kept : s .done ≡ reduce mode size (itemsFrom file 0 n)
+  unfolding reduceFrom cut kept lost settled flat
+  all-kept = simp append-nil at (rw (from-none file l, s .over l) at (s .all))
 
   pub slimming-count : m ≡ length (reduce mode size (itemsFrom file 0 n))
-  slimming-count =
-      let long = length-append (s .done) (settled (s .owing) (s .here)) in
-      omega (arith, s .count, s .past-is, ap length all-kept, long, length-settled (s .owing) (s .here))
+  slimming-count = omega (arith, s .count, s .past-is, ap length all-kept, ap length (s .over l))
 
-  pub slimming-bytes : {out′ : List ℕ} → Mended (pagesIn file last held) owed past m out out′
-      → out′ ≡ sets out₀ 23 (encodeItems (reduce mode size (itemsFrom file 0 n)))
-  slimming-bytes {out′} me =
-      let stand : Stand (pagesIn file last held) owed past m out (s .mid) (s .here) (s .owing) =
-      record { wrote = s .wrote-here .bytes-are; count = s .count; fit = s .fit; known = s .known; owes = s .owes } in
-      let wr : Wrote 0 (s .done ++ settled (s .owing) (s .here)) out₀ out′ =
-      wrote-then (s .wrote-done) (s .past-is ∙ sym (zero-add (length (s .done)))) (record { bytes-are = me .settles (s .mid) (s .here) (s .owing) stand }) in
-      wr .bytes-are ∙ ap (λ (t : List Item). sets out₀ 23 (encodeItems t)) all-kept
+  pub slimming-bytes : out ≡ sets out₀ 23 (encodeItems (reduce mode size (itemsFrom file 0 n)))
+  unfolding encodeItems
+  slimming-bytes =
+      let none : out ≡ s .mid = rw (s .over l) at (s .wrote-here .bytes-are) in
+      none ∙ s .wrote-done .bytes-are ∙ ap (λ (t : List Item). sets out₀ 23 (encodeItems t)) all-kept

@@ -280,7 +280,7 @@ fn end_epoch(
     );
 }
 
-// All stretches, one after the other: the filter is emptied when it is full, and an epoch's items are mended when it ends.
+// All stretches, one after the other: where an epoch ends, since the filter is full or the trace is over, its items are mended and the filter is emptied.
 fn slim(
     file: &[u8],
     n: usize,
@@ -325,7 +325,7 @@ fn slim(
         i = end;
         m = t.done;
         due = t.owing;
-        if c == size {
+        if (c == size) | (i == n) {
             end_epoch(file, last, c, base, heads, next, out, past, m, owed, due);
             past = m;
             due = 0;
@@ -335,7 +335,6 @@ fn slim(
             held = c;
         }
     }
-    mend(file, last, held, base, heads, next, out, past, m, owed, due);
     m
 }
 

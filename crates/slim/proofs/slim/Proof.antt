@@ -2,7 +2,7 @@
 use borrow.Author.Needs.{needs}
 use Prim.Native.Nat.{_-_}
 use Rattle.slim.proofs.Slimming.{Slimming, slimming-none, slimming-look, slimming-filter, slimming-keep, slimming-mend, slimming-moves}
-use Rattle.slim.proofs.Slimming.{slimming-full, slimming-else, ended-mend, slimming-count, slimming-bytes}
+use Rattle.slim.proofs.Slimming.{slimming-full, slimming-else, slimming-count, slimming-bytes}
 use Rattle.slim.proofs.slim.Statement.{statement}
 use Rattle.slim.proofs.slim.Tie as tie
 
@@ -103,20 +103,11 @@ goes-else c =
     (looked .look .ensures .0) (looked .look .ensures .1) (same .0) (same .1 .1 .0) (same .1 .1 .1 .0)
     (wrote .keep .ensures .0) (wrote .keep .ensures .1 .0) (wrote .keep .ensures .1 .1) (wrote .keep .kept .1 .1 .1 .1 .1 .1 .1 .1 .1 .1 .1 .0) (c .if1 .left)
 
--- The items of the last epoch may be mended,
-may-end : tie.Need-mend-requires Inv-loop μ-loop
-may-end c κs =
-    let test = c .before .before .before .before .before in
-    let at = test .before .loop .inv in
-    (at .filter, ended-mend at (test .loop-test .left))
-
--- and all is done.
+-- All is done.
 returns : tie.Need-returns Inv-loop μ-loop
 returns c =
-    let mended = c .before .before .before .before in
-    let test = mended .before .before .before .before .before .before in
-    let at = test .before .loop .inv in
-    (slimming-count at (test .loop-test .left), slimming-bytes at (test .loop-test .left) (mended .mend .ensures))
+    let at = c .before .loop .inv in
+    (slimming-count at (c .loop-test .left), slimming-bytes at (c .loop-test .left))
 
 pub slim-spec : {M : Type 1} → statement M
 slim-spec =
@@ -134,7 +125,6 @@ slim-spec =
     goes-full
     moves-else
     goes-else
-    may-end
     (λ c. search laws)
     (λ c. search laws)
     (λ c. search laws)
