@@ -314,7 +314,8 @@ module _ {file : List ℕ} {n : ℕ} {mode : Mode} {size : ℕ} {last₀ heads�
             (rw none tt, rw none (reduce-over size F mode now-owing now-here)))
 
         -- The epoch is mended, and the filter emptied.
-        pub slimming-full : eqb (r .held) size || eqb (r .end) n ≡ true → {owed″ out″ : List ℕ} → Mended (pagesIn file last′ (r .held)) owed′ past m′ out′ out″
+        pub slimming-full : eqb (r .held) size || eqb (r .end) n ≡ true → {owed″ out″ : List ℕ}
+            → Mended (pagesIn file last′ (r .held)) owed′ past m′ out′ out″
             → length owed″ ≡ length owed′ → {base′ : ℕ} {heads″ : List ℕ}
             → Holds file last′ 0 base′ heads″ next′ [] → length heads″ ≡ length heads′
             → Slimming file n mode size last₀ heads₀ next₀ owed₀ out₀ last′ heads″ next′ owed″ out″ (r .end) 0 base′ m′ m′ 0
