@@ -11,6 +11,13 @@ unfolding flagsOf
 flags-length [] = refl
 flags-length (b ∷ bs) = omega (arith, flags-length bs)
 
+-- Rows of bytes of one length have as many flags, and the other way round.
+pub flags-kept : (a b : List ℕ) → length a ≡ length b → length (flagsOf a) ≡ length (flagsOf b)
+flags-kept a b e = omega (arith, flags-length a, flags-length b)
+
+pub bytes-kept : (a b : List ℕ) → length (flagsOf a) ≡ length (flagsOf b) → length a ≡ length b
+bytes-kept a b e = omega (arith, flags-length a, flags-length b)
+
 two-more : (i : ℕ) → 2 * suc i ≡ suc (suc (2 * i))
 two-more i = omega arith
 

@@ -4,7 +4,7 @@ use mathlib.Core.Path.{_≡_, refl, sym, _∙_}
 use mathlib.Core.Bool.{true, false}
 use mathlib.Core.List.{List}
 use native.Mathlib.Omega.{arith}
-use lib.ListN.{length, replicate}
+use lib.ListN.{length, replicate, length-replicate}
 use lib.Seq.{sets}
 use lib.Dec.{leb, eqb}
 use borrow.Author.Tests.{leb-true, ltb-false, le-ltb, eqb-true, eq-eqb, not-false}
@@ -29,8 +29,9 @@ use Rattle.trace.proofs.Tests.{holds}
 use Rattle.trace.proofs.Items.{items-from, length-from}
 use Rattle.trace.proofs.Output.{Wrote, wrote-file}
 use Rattle.chains.proofs.Chained.{low-zeros}
-use Rattle.filter.specs.Filter.{buckets}
+use Rattle.filter.specs.Filter.{buckets, flagsOf}
 use Rattle.filter.proofs.Filling.{holds-none}
+use Rattle.filter.proofs.Bits.{flags-length}
 use Rattle.slim.specs.Keep.{reduce}
 use Rattle.slim.specs.Passes.{CanSlim}
 use Rattle.slim.specs.Reduce.{isMode, modeOf, keptOf, reducedHeader, reducedFile, falls, reduceTests, reduceVerdict, reduceAnswer, reduceOut}
@@ -112,7 +113,7 @@ module _ (f : List ℕ) (mode size : ℕ) (out : List ℕ) (v : reduceVerdict f 
 
     -- The passes may begin, with an empty filter that has room for the largest.
     pub reducing-slim : h .items < 4294967296 → AreBytes f
-        → CanSlim f (h .items) size (replicate filterMost 0) (replicate buckets 0) (replicate filterMost 0) (replicate filterMost 0) out
+        → CanSlim f (h .items) size (replicate filterMost 0) (replicate buckets 0) (replicate filterMost 0) (flagsOf (replicate 512 0)) out
     reducing-slim c b =
         let a = able in
         record {
@@ -122,7 +123,7 @@ module _ (f : List ℕ) (mode size : ℕ) (out : List ℕ) (v : reduceVerdict f 
           few = a .most;
           filter = holds-none f (replicate filterMost 0) (low-zeros buckets) (omega arith) (omega arith) (omega arith);
           room = a .most;
-          flags = a .most;
+          flags = omega (arith, a .most, flags-length (replicate 512 0), length-replicate {A = ℕ} 512 0);
           octets = b;
           fits = omega (arith, long-is);
         }

@@ -15,12 +15,15 @@ ghost use lib.Dec.{eqb};
 ghost use Rattle.pages.specs.Rows.{over};
 ghost use Rattle.pages.specs.Pages.{has, place};
 ghost use Rattle.limits.proofs.Numbers.{filterMost};
-ghost use Rattle.filter.specs.Filter.{pagesIn, IsFilter, FirstNoted};
+ghost use Rattle.filter.specs.Filter.{pagesIn, IsFilter, FirstNoted, flagsOf};
 ghost use Rattle.trace.specs.declared.Verdict.the-variants.{Sound};
 ghost use Rattle.trace.specs.Layout.{encodeItems, itemsFrom};
 ghost use Rattle.slim.specs.Keep.{reduce as reduced};
 ghost use Rattle.slim.specs.Reduce.{isMode, modeOf, reducedHeader, reducedFile, reduceVerdict, reduceAnswer, reduceOut};
 ghost use Rattle.slim.specs.Passes.{limit, CanLook, Looked, Within, NoneNoted, CanKeep, keptThere, Flags, CanMend, Mended, CanSlim};
+
+// The bytes for a flag of each place of the filter.
+const FLAG_BYTES: usize = Filter::PLACES / 2;
 
 // FastSlim, or FastSlim-Demand.
 pub enum Mode {
@@ -130,16 +133,16 @@ fn owe(
 ) -> usize
     requires { ⌜ IsFilter (now file) (now last) held base (now heads) (now next) ⌝ }
     requires { ⌜ has page (pagesIn (now file) (now last) held) ≡ true ⌝ }
-    requires { ⌜ held ≤ length (now owed) ⌝ }
+    requires { ⌜ held ≤ length (flagsOf (now owed)) ⌝ }
     requires { ⌜ owing ≤ held ⌝ }
-    ensures { λ r. ⌜ r ≡ cond (eqb (getD (now (owed .entry)) (place page (pagesIn (now (file .entry)) (now (last .entry)) held)) 0) 1) owing (owing + 1) ⌝ }
-    ensures { λ _. ⌜ now (owed .exit) ≡ set (now (owed .entry)) (place page (pagesIn (now (file .entry)) (now (last .entry)) held)) 1 ⌝ }
+    ensures { λ r. ⌜ r ≡ cond (eqb (getD (flagsOf (now (owed .entry))) (place page (pagesIn (now (file .entry)) (now (last .entry)) held)) 0) 1) owing (owing + 1) ⌝ }
+    ensures { λ _. ⌜ flagsOf (now (owed .exit)) ≡ set (flagsOf (now (owed .entry))) (place page (pagesIn (now (file .entry)) (now (last .entry)) held)) 1 ⌝ }
 {
     let j = filter::find_unflagged(file, last, held, base, heads, next, owed, page);
     if held <= j {
         return owing;
     }
-    owed[j] = 1;
+    filter::put_flag(owed, j, 1);
     owing + 1
 }
 
@@ -161,13 +164,13 @@ fn keep(
     owed: &mut [u8],
     owing: usize,
 ) -> Tally
-    requires { ⌜ CanKeep (now file) from end had done owing (pagesIn (now file) (now last) held) (now last) (now owed) (now out) ⌝ }
+    requires { ⌜ CanKeep (now file) from end had done owing (pagesIn (now file) (now last) held) (now last) (flagsOf (now owed)) (now out) ⌝ }
     requires { ⌜ IsFilter (now file) (now last) held base (now heads) (now next) ⌝ }
     ensures { λ r. ⌜ r .done ≡ done + length (keptThere (now (file .entry)) from end had (pagesIn (now (file .entry)) (now (last .entry)) held)) ⌝ }
     ensures { λ _. ⌜ now (out .exit) ≡ sets (now (out .entry)) (23 + 19 * done)
         (encodeItems (keptThere (now (file .entry)) from end had (pagesIn (now (file .entry)) (now (last .entry)) held))) ⌝ }
     ensures { λ r. ⌜ Flags (now (file .entry)) from end had (pagesIn (now (file .entry)) (now (last .entry)) held)
-        (now (owed .entry)) (now (owed .exit)) (r .owing) ⌝ }
+        (flagsOf (now (owed .entry))) (flagsOf (now (owed .exit))) (r .owing) ⌝ }
 {
     let mut k = from;
     let mut c = had;
@@ -178,7 +181,7 @@ fn keep(
         let x = trace::read::item_at(file, k);
         if filter::is_at(file, last, held, x.page, c) {
             trace::write::item(out, m, x);
-            owed[c] = 0;
+            filter::put_flag(owed, c, 0);
             c += 1;
             m += 1;
             k += 1;
@@ -216,8 +219,8 @@ fn mend(
     owing: usize,
 )
     requires { ⌜ IsFilter (now file) (now last) held base (now heads) (now next) ⌝ }
-    requires { ⌜ CanMend from to held owing (now out) (now owed) ⌝ }
-    ensures { λ _. ⌜ Mended (pagesIn (now (file .entry)) (now (last .entry)) held) (now (owed .entry)) from to (now (out .entry)) (now (out .exit)) ⌝ }
+    requires { ⌜ CanMend from to held owing (now out) (flagsOf (now owed)) ⌝ }
+    ensures { λ _. ⌜ Mended (pagesIn (now (file .entry)) (now (last .entry)) held) (flagsOf (now (owed .entry))) from to (now (out .entry)) (now (out .exit)) ⌝ }
 {
     let mut left = owing;
     let mut k = to;
@@ -229,7 +232,7 @@ fn mend(
         let x = trace::read::item_at(out, a);
         let j = filter::find_flagged(file, last, held, base, heads, next, owed, x.page);
         if j < held {
-            owed[j] = 0;
+            filter::put_flag(owed, j, 0);
             left -= 1;
             let y = Item {
                 page: x.page,
@@ -259,8 +262,8 @@ fn end_epoch(
     owing: usize,
 )
     requires { ⌜ IsFilter (now file) (now last) held base (now heads) (now next) ⌝ }
-    requires { ⌜ CanMend from to held owing (now out) (now owed) ⌝ }
-    ensures { λ _. ⌜ Mended (pagesIn (now (file .entry)) (now (last .entry)) held) (now (owed .entry)) from to (now (out .entry)) (now (out .exit)) ⌝ }
+    requires { ⌜ CanMend from to held owing (now out) (flagsOf (now owed)) ⌝ }
+    ensures { λ _. ⌜ Mended (pagesIn (now (file .entry)) (now (last .entry)) held) (flagsOf (now (owed .entry))) from to (now (out .entry)) (now (out .exit)) ⌝ }
 {
     if owing == 0 {
         return;
@@ -292,7 +295,7 @@ fn slim(
     owed: &mut [u8],
     out: &mut [u8],
 ) -> usize
-    requires { ⌜ CanSlim (now file) n size (now last) (now heads) (now next) (now owed) (now out) ⌝ }
+    requires { ⌜ CanSlim (now file) n size (now last) (now heads) (now next) (flagsOf (now owed)) (now out) ⌝ }
     ensures { λ r. ⌜ r ≡ length (reduced mode size (itemsFrom (now (file .entry)) 0 n)) ⌝ }
     ensures { λ _. ⌜ now (out .exit) ≡ sets (now (out .entry)) 23 (encodeItems (reduced mode size (itemsFrom (now (file .entry)) 0 n))) ⌝ }
 {
@@ -389,7 +392,7 @@ fn write_reduced(file: &[u8], mode: u64, size: u64, out: &mut [u8]) -> Header
     let mut last = [0u32; Filter::PLACES];
     let mut heads = [0u16; filter::BUCKETS];
     let mut next = [0u16; Filter::PLACES];
-    let mut owed = [0u8; Filter::PLACES];
+    let mut owed = [0u8; FLAG_BYTES];
     let h = trace::read::header_at(file);
     let n = h.items as usize;
     let m = slim(

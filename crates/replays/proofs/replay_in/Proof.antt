@@ -10,8 +10,7 @@ sound-requires : tie.Need-replay-sound-requires
 sound-requires c κs =
     let told = c .before .before .before .before .before .before .before in
     let judged = told .before .before .before .before .before .before in
-    let start = judged .before .before .before .before .before .before .before .before .before .before .before .before in
-    (
+    let start = judged .before .before .before .before .before .before .before .before .before .before .before .before in (
       done-sound _ _ _ (start .args .kept .now) _ (start .args .events .now) (start .pre .0) (judged .judge .ensures) (told .enum-told .given .1),
       (start .pre .0, rows-kept (start .pre .1) _ _ (judged .judge .kept .1 .1 .1 .1 .1 .0) (judged .judge .kept .1 .1 .1 .1 .1 .1 .0)),
     )
@@ -27,8 +26,7 @@ returns-2 c =
     let marks = start .pre .0 in
     let is = judged .judge .ensures in
     let sound = told .enum-told .given .1 in
-    let left = done .replay-sound .ensures in
-    (
+    let left = done .replay-sound .ensures in (
       done-answer _ _ _ (start .args .kept .now) _ events marks is sound (left .0),
       (
         done-cache _ _ _ (start .args .kept .now) _ events marks is sound (left .1 .0),

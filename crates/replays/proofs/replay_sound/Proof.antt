@@ -29,8 +29,7 @@ returns c =
     let marks = start .pre .1 .0 in
     let sound = start .pre .0 in
     let head = told .header-at .ensures .0 in
-    let ran = done .run .ensures in
-    (
+    let ran = done .run .ensures in (
       played-summary _ _ _ (start .args .kept .now) _ (start .args .events .now) marks sound head ran (c .per-million .ensures),
       (played-cache _ _ _ (start .args .kept .now) _ (start .args .events .now) marks sound head ran, (played-kept _ _ _ (start .args .kept .now) _ (start .args .events .now) marks sound head ran, played-events _ _ _ (start .args .kept .now) _ (start .args .events .now) marks sound head ran)),
     )

@@ -2,7 +2,8 @@
 use Prim.Native.Nat.{_-_}
 use native.Mathlib.Omega.{arith}
 use borrow.Author.Needs.{needs}
-use Rattle.filter.specs.Filter.{pagesIn}
+use Rattle.filter.specs.Filter.{pagesIn, flagsOf}
+use Rattle.filter.proofs.Bits.{flags-length, bytes-kept}
 use Rattle.slim.proofs.Keeping.{Keeping, keeping-none, keeping-long, keeping-owing, keeping-has, keeping-flag}
 use Rattle.slim.proofs.Keeping.{keeping-new, keeping-last, keeping-skip, keeping-drop, keeping-count, keeping-bytes, keeping-flags}
 use Rattle.slim.proofs.keep.Statement.{statement}
@@ -12,19 +13,57 @@ ruleset laws = (keeping-none, keeping-has, keeping-flag, needs)
 
 abbrev Inv-loop : tie.InvT-loop
 Inv-loop file from end last held base heads next had out₀ done owed₀ owing k₀ c₀ m₀ n₀ skip₀ out owed k c m n skip =
-    Keeping file from end had done (pagesIn file last held) last held owed₀ out₀ k c m n skip owed out
+    Keeping file from end had done (pagesIn file last held) last held (flagsOf owed₀) out₀ k c m n skip (flagsOf owed) out
 
 abbrev μ-loop : tie.MeasureT-loop
 μ-loop file from end last held base heads next had out₀ done owed₀ owing k₀ c₀ m₀ n₀ skip₀ out owed k c m n skip = end - k
 
+-- The first item of a page has the page's flag cleared.
+may-put : tie.Need-put-flag-requires Inv-loop μ-loop
+may-put c κs =
+    let new = c .before .before .before .before .before in
+    let asked = new .before in
+    let turn = asked .before .before in
+    (keeping-flag (turn .before .loop .inv) (turn .loop-test .taken) (asked .before .item-at .ensures) (asked .is-at .ensures) (new .if1 .taken), omega arith)
+
+-- The count of pages fits: there is a flag for each.
+fits-pages : tie.Need-add-c Inv-loop μ-loop
+fits-pages c =
+    let new = c .before .before .before .before .before .before .before .before in
+    let asked = new .before in
+    let turn = asked .before .before in
+    let start = turn .before .before .before .before .before .before .before .before in
+    let at = turn .before .loop .inv in
+    let flag = keeping-flag at (turn .loop-test .taken) (asked .before .item-at .ensures) (asked .is-at .ensures) (new .if1 .taken) in
+    let same = at .flags-same in
+    let long = flags-length (start .args .owed .now) in
+    let good = start .good .1 .1 .1 .1 .1 .1 .1 .1 .1 .1 .1 .0 in
+    record { fits = omega arith }
+
+-- So does that of items written: the output has room for them.
+fits-new : tie.Need-add-m Inv-loop μ-loop
+fits-new c =
+    let turn = c .before .before .before .before .before .before .before .before .before .before .before in
+    let start = turn .before .before .before .before .before .before .before .before in
+    let at = turn .before .loop .inv in
+    let test = turn .loop-test .taken in
+    let good = start .good .1 .1 .1 .1 .1 .1 .1 .1 .1 .0 in
+    let long = at .out-long in
+    let few = at .few in
+    let count = at .count in
+    let room = at .room in
+    record { fits = omega arith }
+
 -- A turn writes an item that is the first of its page.
 one-new : tie.Need-loop-again Inv-loop μ-loop
 one-new c =
-    let written = c .before .before in
+    let put = c .before .before in
+    let written = put .before .before .before .before in
     let new = written .before .before in
     let asked = new .before in
     let turn = asked .before .before in
-    keeping-new (turn .before .loop .inv) (turn .loop-test .taken) (asked .before .item-at .ensures) (asked .is-at .ensures) (new .if1 .taken) (written .item .ensures)
+    rw (put .put-flag .ensures)
+    (keeping-new (turn .before .loop .inv) (turn .loop-test .taken) (asked .before .item-at .ensures) (asked .is-at .ensures) (new .if1 .taken) (written .item .ensures))
 
 -- Of another item it is asked whether it is noted.
 may-ask : tie.Need-noted-from-requires Inv-loop μ-loop
@@ -104,6 +143,10 @@ done c =
     let test = c .loop-test .left in
     (keeping-count at test, (keeping-bytes at test, keeping-flags at test))
 
+-- The flags' bytes are as many as before.
+bytes-same : tie.Need-same-length-2 Inv-loop μ-loop
+bytes-same c = bytes-kept _ _ (c .before .loop .inv .flags-same)
+
 pub keep-spec : {M : Type 1} → statement M
 keep-spec =
     tie.close
@@ -114,9 +157,9 @@ keep-spec =
     (λ c κs. search laws)
     (λ c κs. search laws)
     (λ c κs. search laws)
-    (λ c. search laws)
-    (λ c. search laws)
-    (λ c. search laws)
+    may-put
+    fits-pages
+    fits-new
     (λ c. search laws)
     (λ c. search laws)
     one-new
@@ -134,5 +177,5 @@ keep-spec =
     (λ c. search laws)
     one-skip
     (λ c. search laws)
-    (λ c. search laws)
+    bytes-same
     done)

@@ -1,8 +1,10 @@
 -- `slim::mend` meets its contract. Assumes nothing.
 use Prim.Native.Nat.{_-_}
+use native.Mathlib.Omega.{arith}
 use borrow.Author.Needs.{needs}
-use Rattle.filter.specs.Filter.{pagesIn}
+use Rattle.filter.specs.Filter.{pagesIn, flagsOf}
 use Rattle.filter.proofs.Noting.{notes-long}
+use Rattle.filter.proofs.Bits.{bytes-kept}
 use Rattle.slim.proofs.Mending.{Mending, mending-none, mending-long, mending-stop, mending-all, mending-set, mending-leave}
 use Rattle.slim.proofs.mend.Statement.{statement}
 use Rattle.slim.proofs.mend.Tie as tie
@@ -10,7 +12,7 @@ use Rattle.slim.proofs.mend.Tie as tie
 ruleset laws = (mending-none, mending-stop, mending-all, notes-long, needs)
 
 abbrev Inv-loop : tie.InvT-loop
-Inv-loop file last held base heads next out₀ from to owed₀ owing left₀ k₀ out owed left k = Mending (pagesIn file last held) owed₀ held from to out₀ owed out k left
+Inv-loop file last held base heads next out₀ from to owed₀ owing left₀ k₀ out owed left k = Mending (pagesIn file last held) (flagsOf owed₀) held from to out₀ (flagsOf owed) out k left
 
 abbrev μ-loop : tie.MeasureT-loop
 μ-loop file last held base heads next out₀ from to owed₀ owing left₀ k₀ out owed left k = k - from
@@ -23,21 +25,31 @@ may-find c κs =
     (start .pre .0, mending-long (at .loop .inv))
 
 -- Its page has a flag.
-flag-there : tie.Need-slice-write-owed Inv-loop μ-loop
-flag-there c =
-    let at = c .before .before .before .before .before .before .before in
+may-put : tie.Need-put-flag-requires Inv-loop μ-loop
+may-put c κs =
+    let at = c .before .before .before .before .before .before .before .before in
     let long = mending-long (at .loop .inv) in
-    search needs
+    let here = c .before .if2 .taken in
+    (omega arith, omega arith)
+
+-- The flags' bytes are as many as before.
+bytes-stop : tie.Need-same-length-2 Inv-loop μ-loop
+bytes-stop c = bytes-kept _ _ (c .before .before .loop .inv .flags-same)
+
+bytes-all : tie.Need-same-length-4 Inv-loop μ-loop
+bytes-all c = bytes-kept _ _ (c .before .loop .inv .flags-same)
 
 -- A turn settles the last item of a page that is owed a write,
 one-set : tie.Need-loop-again Inv-loop μ-loop
 one-set c =
     let written = c .before .before in
-    let flagged = written .before .before in
+    let put = written .before .before .before .before in
+    let flagged = put .before .before in
     let found = flagged .before in
     let read = found .before .before in
     let turn = read .before .before .before in
-    mending-set (turn .before .loop .inv) (turn .loop-test .taken) (read .item-at .ensures) (found .find-flagged .ensures) (flagged .if2 .taken) (written .item .ensures)
+    rw (put .put-flag .ensures)
+    (mending-set (turn .before .loop .inv) (turn .loop-test .taken) (read .item-at .ensures) (found .find-flagged .ensures) (flagged .if2 .taken) (written .item .ensures))
 
 -- or leaves an item as it is.
 one-left : tie.Need-loop-again-2 Inv-loop μ-loop
@@ -55,12 +67,12 @@ mend-spec =
     μ-loop
     (λ c. search laws)
     (λ c. search laws)
-    (λ c. search laws)
+    bytes-stop
     (λ c. search laws)
     (λ c. search laws)
     (λ c κs. search laws)
     may-find
-    flag-there
+    may-put
     (λ c. search laws)
     (λ c κs. search laws)
     (λ c. search laws)
@@ -68,5 +80,5 @@ mend-spec =
     (λ c. search laws)
     one-left
     (λ c. search laws)
-    (λ c. search laws)
+    bytes-all
     (λ c. search laws))

@@ -1,6 +1,8 @@
 -- `slim::slim` meets its contract. Assumes nothing.
 use borrow.Author.Needs.{needs}
 use Prim.Native.Nat.{_-_}
+use Rattle.filter.specs.Filter.{flagsOf}
+use Rattle.filter.proofs.Bits.{flags-kept, bytes-kept}
 use Rattle.slim.proofs.Slimming.{Slimming, slimming-none, slimming-look, slimming-filter, slimming-keep, slimming-mend, slimming-moves}
 use Rattle.slim.proofs.Slimming.{slimming-full, slimming-else, slimming-count, slimming-bytes}
 use Rattle.slim.proofs.slim.Statement.{statement}
@@ -10,7 +12,7 @@ ruleset laws = (slimming-none, slimming-look, needs)
 
 abbrev Inv-loop : tie.InvT-loop
 Inv-loop file n mode size last₀ heads₀ next₀ owed₀ out₀ i₀ held₀ base₀ past₀ m₀ due₀ last heads next owed out i held base past m due =
-    Slimming file n mode size last₀ heads₀ next₀ owed₀ out₀ last heads next owed out i held base past m due
+    Slimming file n mode size last₀ heads₀ next₀ (flagsOf owed₀) out₀ last heads next (flagsOf owed) out i held base past m due
 
 abbrev μ-loop : tie.MeasureT-loop
 μ-loop file n mode size last₀ heads₀ next₀ owed₀ out₀ i₀ held₀ base₀ past₀ m₀ due₀ last heads next owed out i held base past m due = n - i
@@ -40,7 +42,7 @@ may-mend c κs =
     let l = looked .look .ensures in (
       slimming-filter at (turn .loop-test .taken) (sized .limit-of .ensures) (l .0) (l .1) (same .0) (same .1 .1 .0) (same .1 .1 .1 .0),
       slimming-mend at (turn .loop-test .taken) (sized .limit-of .ensures) (l .0) (l .1) (same .0) (same .1 .1 .0) (same .1 .1 .1 .0)
-          (wrote .keep .ensures .0) (wrote .keep .ensures .1 .0) (wrote .keep .ensures .1 .1) (wrote .keep .kept .1 .1 .1 .1 .1 .1 .1 .1 .1 .1 .1 .0),
+          (wrote .keep .ensures .0) (wrote .keep .ensures .1 .0) (wrote .keep .ensures .1 .1) (flags-kept _ _ (wrote .keep .kept .1 .1 .1 .1 .1 .1 .1 .1 .1 .1 .1 .0)),
     )
 
 -- and its filter emptied.
@@ -79,8 +81,8 @@ goes-full c =
     let same = looked .look .kept .1 .1 .1 .1 in
     slimming-full (turn .before .loop .inv) (turn .loop-test .taken) (sized .limit-of .ensures)
     (looked .look .ensures .0) (looked .look .ensures .1) (same .0) (same .1 .1 .0) (same .1 .1 .1 .0)
-    (wrote .keep .ensures .0) (wrote .keep .ensures .1 .0) (wrote .keep .ensures .1 .1) (wrote .keep .kept .1 .1 .1 .1 .1 .1 .1 .1 .1 .1 .1 .0)
-    (full .if1 .taken) (mended .end-epoch .ensures) (mended .end-epoch .kept .1 .1 .1 .1 .1 .1 .1 .1 .1 .0) (emptied .empty .ensures .1 .1) (emptied .empty .kept .1 .1 .1 .1 .0)
+    (wrote .keep .ensures .0) (wrote .keep .ensures .1 .0) (wrote .keep .ensures .1 .1) (flags-kept _ _ (wrote .keep .kept .1 .1 .1 .1 .1 .1 .1 .1 .1 .1 .1 .0))
+    (full .if1 .taken) (mended .end-epoch .ensures) (flags-kept _ _ (mended .end-epoch .kept .1 .1 .1 .1 .1 .1 .1 .1 .1 .0)) (emptied .empty .ensures .1 .1) (emptied .empty .kept .1 .1 .1 .1 .0)
 
 -- fewer are left after one that does not, and the next goes on with its pages.
 moves-else : tie.Need-loop-less-2 Inv-loop μ-loop
@@ -101,13 +103,17 @@ goes-else c =
     let same = looked .look .kept .1 .1 .1 .1 in
     slimming-else (turn .before .loop .inv) (turn .loop-test .taken) (sized .limit-of .ensures)
     (looked .look .ensures .0) (looked .look .ensures .1) (same .0) (same .1 .1 .0) (same .1 .1 .1 .0)
-    (wrote .keep .ensures .0) (wrote .keep .ensures .1 .0) (wrote .keep .ensures .1 .1) (wrote .keep .kept .1 .1 .1 .1 .1 .1 .1 .1 .1 .1 .1 .0) (c .if1 .left)
+    (wrote .keep .ensures .0) (wrote .keep .ensures .1 .0) (wrote .keep .ensures .1 .1) (flags-kept _ _ (wrote .keep .kept .1 .1 .1 .1 .1 .1 .1 .1 .1 .1 .1 .0)) (c .if1 .left)
 
 -- All is done.
 returns : tie.Need-returns Inv-loop μ-loop
 returns c =
     let at = c .before .loop .inv in
     (slimming-count at (c .loop-test .left), slimming-bytes at (c .loop-test .left))
+
+-- The flags' bytes are as many as before.
+bytes-same : tie.Need-same-length-4 Inv-loop μ-loop
+bytes-same c = bytes-kept _ _ (c .before .loop .inv .owed-long)
 
 pub slim-spec : {M : Type 1} → statement M
 slim-spec =
@@ -128,6 +134,6 @@ slim-spec =
     (λ c. search laws)
     (λ c. search laws)
     (λ c. search laws)
-    (λ c. search laws)
+    bytes-same
     (λ c. search laws)
     returns)
