@@ -11,6 +11,8 @@ use replays::Replayed;
 use slim::Reduced;
 use trace::Checked;
 ghost use Prim.Native.Nat.{_≤_};
+ghost use mathlib.Core.Path.{_≡_};
+ghost use lib.ListN.{length};
 
 // The settings of a reduction, and how many bytes are lent to it.
 pub struct Reduction {
@@ -102,30 +104,52 @@ pub fn join(
     tell::line(t, call, name, got, want, kept)
 }
 
-fn replay_into(
+// The buffers are lent whole: each is cut once, by the caller.
+fn replay_whole(
     file: &[u8],
     s: Replaying,
     start: &[u64],
+    marks: &[u64],
     cache: &mut [u64],
+    kept: &mut [bool],
     events: &mut [u64],
-) -> [u64; 6] {
-    let places = most(s.places, cache.len());
-    let room = most(s.room, events.len());
-    noise::fill_numbers(&mut cache[0..places], start);
-    noise::fill_numbers(&mut events[0..room], &start[0..0]);
-    match replays::replay(
-        file,
-        s.size,
-        &mut cache[0..places],
-        s.resident,
-        &mut events[0..room],
-    ) {
+) -> [u64; 6]
+    requires { ⌜ length (now kept) ≡ length (now cache) ⌝ }
+{
+    noise::fill_numbers(cache, start);
+    noise::fill_marks(kept, marks);
+    noise::fill_numbers(events, &start[0..0]);
+    match replays::replay_columns(file, s.size, cache, kept, s.resident, events) {
         Replayed::Done(d) => [0, d.items, d.fetches, d.evictions, d.resident, d.permillion],
         Replayed::Refused(r, back) => answer::refusal(r, back),
     }
 }
 
-// The cache starts as `start` and noise beyond it; `pages` and `events` are what the two buffers should begin with afterwards.
+fn replay_into(
+    file: &[u8],
+    s: Replaying,
+    start: &[u64],
+    marks: &[u64],
+    cache: &mut [u64],
+    kept: &mut [bool],
+    events: &mut [u64],
+) -> [u64; 6]
+    requires { ⌜ length (now kept) ≡ length (now cache) ⌝ }
+{
+    let places = most(s.places, cache.len());
+    let room = most(s.room, events.len());
+    replay_whole(
+        file,
+        s,
+        start,
+        marks,
+        &mut cache[0..places],
+        &mut kept[0..places],
+        &mut events[0..room],
+    )
+}
+
+// The cache starts as `start`, with `marks`, and noise beyond it; `pages`, `kept` and `events` are what the three buffers should begin with afterwards.
 pub fn replay(
     t: Tally,
     call: &[u8],
@@ -133,15 +157,27 @@ pub fn replay(
     f: File,
     s: Replaying,
     start: &[u64],
+    marks: &[u64],
     want: [u64; 6],
     pages: &[u64],
+    kept: &[u64],
     events: &[u64],
 ) -> Tally {
     let bytes = f.bytes;
     let mut cache = [0u64; Cache::PLACES + 1];
+    let mut column = [false; Cache::PLACES + 1];
     let mut out = [0u64; 64];
-    let got = replay_into(build::shown(&bytes, f.len), s, start, &mut cache, &mut out);
+    let got = replay_into(
+        build::shown(&bytes, f.len),
+        s,
+        start,
+        marks,
+        &mut cache,
+        &mut column,
+        &mut out,
+    );
     let one = noise::holds_numbers(&cache, s.places, pages, start);
-    let two = noise::holds_numbers(&out, s.room, events, &start[0..0]);
-    tell::line(t, call, name, got, want, one && two)
+    let two = noise::holds_marks(&column, s.places, kept, marks);
+    let three = noise::holds_numbers(&out, s.room, events, &start[0..0]);
+    tell::line(t, call, name, got, want, one && two && three)
 }

@@ -1,4 +1,5 @@
 // Trace files made from numbers. Nothing here is shared with the code that is tried: each byte is written by the paper's table.
+use super::row;
 use trace::Header;
 
 // The first `len` of the bytes; the others are zero.
@@ -38,32 +39,40 @@ fn field(buf: &mut [u8], at: usize, tag: u8, bytes: u64, x: u64) -> usize {
     number(buf, value, bytes, x)
 }
 
-fn item(buf: &mut [u8], at: usize, page: u64, time: u64) -> usize {
-    let len = byte(buf, at, 5);
+// The tag of an item that is a read, and of one that is a write.
+fn tag_of(mark: u64) -> u8 {
+    if mark == 0 { 5 } else { 6 }
+}
+
+fn item(buf: &mut [u8], at: usize, tag: u8, page: u64, time: u64) -> usize {
+    let len = byte(buf, at, tag);
     let value = number(buf, len, 2, 16);
     let next = number(buf, value, 8, page);
     number(buf, next, 8, time)
 }
 
-// Pages and times in turn.
-fn rows(buf: &mut [u8], at: usize, items: &[u64]) -> usize {
+// Pages and times in turn. Where there are fewer marks than items, those without one are reads.
+fn rows(buf: &mut [u8], at: usize, items: &[u64], marks: &[u64]) -> usize {
     let mut next = at;
     let mut rest = items;
+    let mut i = 0;
     while 1 < rest.len() {
-        next = item(buf, next, rest[0], rest[1]);
+        let tag = tag_of(row::at(marks, i));
+        next = item(buf, next, tag, rest[0], rest[1]);
         rest = &rest[2..];
+        i += 1;
     }
     next
 }
 
 // The header need not fit the items: a file may be wrong.
-pub fn file_of(h: Header, items: &[u64]) -> File {
+pub fn file_of(h: Header, items: &[u64], marks: &[u64]) -> File {
     let mut bytes = [0u8; 512];
     let filter = field(&mut bytes, 0, 1, 1, h.kind);
     let references = field(&mut bytes, filter, 2, 2, h.filter);
     let count = field(&mut bytes, references, 3, 4, h.references);
     let at = field(&mut bytes, count, 4, 4, h.items);
-    let len = rows(&mut bytes, at, items);
+    let len = rows(&mut bytes, at, items, marks);
     File { bytes, len }
 }
 

@@ -13,7 +13,7 @@ fn alone(t: Tally, name: &[u8], f: File, number: u64, item: u64) -> Tally {
     let second = [number, 2, item, 0, 0, 0];
     let back = [number, 1, item, 2, 0, 0];
     let none = build::nothing();
-    let good = build::file_of(build::head(0, 0, 3, 3), &[1, 10, 2, 20, 3, 30]);
+    let good = build::file_of(build::head(0, 0, 3, 3), &[1, 10, 2, 20, 3, 30], &[0, 1]);
     let s = Reduction {
         mode: 1,
         filter: 2,
@@ -27,7 +27,19 @@ fn alone(t: Tally, name: &[u8], f: File, number: u64, item: u64) -> Tally {
     };
     let t = ask::check(t, name, f, want);
     let t = ask::reduce(t, b"reduce: ", name, f, s, want, none);
-    let t = ask::replay(t, b"replay: ", name, f, r, &[7, 8], back, &[], &[]);
+    let t = ask::replay(
+        t,
+        b"replay: ",
+        name,
+        f,
+        r,
+        &[7, 8],
+        &[0, 1],
+        back,
+        &[],
+        &[],
+        &[],
+    );
     let t = ask::join(t, b"join, first file: ", name, f, good, 140, want, none);
     ask::join(t, b"join, second file: ", name, good, f, 140, second, none)
 }
@@ -38,7 +50,7 @@ fn among_others(t: Tally, name: &[u8], f: File, number: u64, item: u64) -> Tally
     let second = [number, 2, item, 0, 0, 0];
     let back = [number, 1, item, 9, 0, 0];
     let none = build::nothing();
-    let late = build::file_of(build::head(2, 1, 4294967295, 1), &[1, 1000]);
+    let late = build::file_of(build::head(2, 1, 4294967295, 1), &[1, 1000], &[]);
     let s = Reduction {
         mode: 3,
         filter: 0,
@@ -58,7 +70,9 @@ fn among_others(t: Tally, name: &[u8], f: File, number: u64, item: u64) -> Tally
         f,
         r,
         &[7, 7],
+        &[1, 0],
         back,
+        &[],
         &[],
         &[],
     );
@@ -77,11 +91,12 @@ pub fn with_byte(t: Tally, name: &[u8], f: File, n: [u64; 48]) -> Tally {
     faulty(t, name, g, n[3], n[4])
 }
 
-// A line `x`: the refusal and its item, how many items are there, the four header values, and the items.
+// A line `x`: the refusal and its item, how many items are there, the four header values, the items, and their marks.
 pub fn tried(t: Tally, name: &[u8], n: [u64; 48]) -> Tally {
     // Lent from a copy: a row that is lent cannot be read.
     let copy = n;
     let h = build::head(n[3], n[4], n[5], n[6]);
-    let items = row::pairs(row::behind(row::list(&copy), 7), n[2]);
-    faulty(t, name, build::file_of(h, items), n[0], n[1])
+    let items = row::behind(row::list(&copy), 7);
+    let f = build::file_of(h, row::pairs(items, n[2]), row::marks(items, n[2]));
+    faulty(t, name, f, n[0], n[1])
 }

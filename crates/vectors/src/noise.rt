@@ -19,6 +19,11 @@ fn due_number(over: &[u64], start: &[u64], i: usize) -> u64 {
     std::num::wrapping_add_u64(i as u64, 7000000)
 }
 
+// A mark among marks that are numbers, 1 for a written page; the noise is every other one.
+fn due_mark(over: &[u64], start: &[u64], i: usize) -> bool {
+    due_number(over, start, i) % 2 == 1
+}
+
 pub fn fill_bytes(buf: &mut [u8]) {
     let mut i = 0;
     while i < buf.len() {
@@ -32,6 +37,15 @@ pub fn fill_numbers(buf: &mut [u64], start: &[u64]) {
     let mut i = 0;
     while i < buf.len() {
         buf[i] = due_number(start, start, i);
+        i += 1;
+    }
+}
+
+// The same of marks.
+pub fn fill_marks(buf: &mut [bool], start: &[u64]) {
+    let mut i = 0;
+    while i < buf.len() {
+        buf[i] = due_mark(start, start, i);
         i += 1;
     }
 }
@@ -59,6 +73,21 @@ pub fn holds_numbers(buf: &[u64], lent: usize, over: &[u64], start: &[u64]) -> b
             return true;
         }
         if buf[i] != due_number(over, start, i) {
+            return false;
+        }
+        i += 1;
+    }
+    true
+}
+
+// The same of marks.
+pub fn holds_marks(buf: &[bool], lent: usize, over: &[u64], start: &[u64]) -> bool {
+    let mut i = 0;
+    while i < buf.len() {
+        if lent <= i {
+            return true;
+        }
+        if buf[i] != due_mark(over, start, i) {
             return false;
         }
         i += 1;

@@ -93,11 +93,13 @@ pub fn refused(t: Tally, name: &[u8], f: File, n: [u64; 48]) -> Tally {
     reduced(t, name, f, n, build::shown(&want, due))
 }
 
-// A line `w`: the same with no bar, where the reduce program writes a file; its references, how many items are kept, and these.
+// A line `w`: the same with no bar, where the reduce program writes a file; its references, how many items are kept, these, and
+// their marks.
 pub fn written(t: Tally, name: &[u8], f: File, n: [u64; 48]) -> Tally {
     let h = build::head(n[4], n[5], n[8], n[9]);
     let count = n[9];
-    let after = build::file_of(h, row::pairs(row::behind(row::list(&n), 10), count));
+    let items = row::behind(row::list(&n), 10);
+    let after = build::file_of(h, row::pairs(items, count), row::marks(items, count));
     let bytes = after.bytes;
     reduced(t, name, f, n, build::shown(&bytes, after.len))
 }

@@ -139,7 +139,7 @@ pub fn first(s: &[u64], n: u64) -> &[u64] {
     s
 }
 
-// The first so many pairs, and threes. No row has as many as twenty.
+// The first so many pairs, the marks behind them, and the first so many fours. No row has as many as twenty.
 pub fn pairs(s: &[u64], n: u64) -> &[u64] {
     if n < 20 {
         return first(s, 2 * n);
@@ -147,9 +147,13 @@ pub fn pairs(s: &[u64], n: u64) -> &[u64] {
     s
 }
 
-pub fn threes(s: &[u64], n: u64) -> &[u64] {
+pub fn marks(s: &[u64], n: u64) -> &[u64] {
+    first(behind(s, pairs(s, n).len() as u64), n)
+}
+
+pub fn fours(s: &[u64], n: u64) -> &[u64] {
     if n < 20 {
-        return first(s, 3 * n);
+        return first(s, 4 * n);
     }
     s
 }

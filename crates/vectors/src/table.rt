@@ -27,11 +27,12 @@ fn tried(t: Tally, form: u8, name: &[u8], f: File, n: [u64; 48]) -> Tally {
     }
 }
 
-// The four header values, and the items.
+// The four header values, the items, and their marks.
 pub fn file_in(n: [u64; 48]) -> File {
     let h = build::head(n[0], n[1], n[2], n[3]);
     let count = n[3];
-    build::file_of(h, row::pairs(row::behind(row::list(&n), 4), count))
+    let items = row::behind(row::list(&n), 4);
+    build::file_of(h, row::pairs(items, count), row::marks(items, count))
 }
 
 fn file_of_line(form: u8, f: File, n: [u64; 48]) -> File {
