@@ -3,8 +3,12 @@ use Prim.Native.Nat.{ℕ, zero, suc, _+_, _*_, _/_, _%_, _≤_, _<_}
 use mathlib.Core.Path.{_≡_, refl, sym, ap, _∙_}
 use mathlib.Core.List.{List, [], _∷_}
 use native.Mathlib.Omega.{arith}
-use lib.ListN.{length, getD, set}
-use Rattle.filter.specs.Filter.{flagsOf}
+use lib.ListN.{length, getD, set, replicate, length-set, List·getD-eq-default}
+use lib.Seq.{getD-set-same, getD-set-other}
+use lib.Dec.{eqb, ltb}
+use borrow.Author.Tests.{eqb-false, ltb-true, ltb-false}
+use Rattle.pages.proofs.Choice.{split, same}
+use Rattle.filter.specs.Filter.{flagsOf, Clear}
 
 pub flags-length : (bs : List ℕ) → length (flagsOf bs) ≡ 2 * length bs
 unfolding flagsOf
@@ -80,3 +84,49 @@ module _ (bs : List ℕ) (j : ℕ) where
 
   pub put-odd : (v : ℕ) → v ≤ 1 → (j % 2 ≡ 0 → ⊥) → flagsOf (set bs (j / 2) (getD bs (j / 2) 0 % 2 + 2 * v)) ≡ set (flagsOf bs) j v
   put-odd v h n = let z : suc (2 * (j / 2)) ≡ j = omega arith in rw z at (put-upper bs (j / 2) v h)
+
+-- A flag is 0 or 1.
+pub flag-bit : (bs : List ℕ) (j : ℕ) → getD (flagsOf bs) j 0 ≤ 1
+unfolding flagsOf
+flag-bit [] j = omega arith
+flag-bit (b ∷ bs) zero = bit b
+flag-bit (b ∷ bs) (suc zero) = bit (b / 2)
+flag-bit (b ∷ bs) (suc (suc j)) = flag-bit bs j
+
+-- ---- all cleared
+
+-- Bytes that are 0 have no flag set.
+pub flags-clear : (bs : List ℕ) → ((i : ℕ) → getD bs i 0 ≡ 0) → Clear 0 (flagsOf bs)
+unfolding flagsOf
+flags-clear [] z j o = refl
+flags-clear (b ∷ bs) z zero o = let e : b ≡ 0 = z 0 in rw e
+flags-clear (b ∷ bs) z (suc zero) o = let e : b ≡ 0 = z 0 in rw e
+flags-clear (b ∷ bs) z (suc (suc j)) o = flags-clear bs (λ i. z (suc i)) j (omega arith)
+
+pub zeros-clear : (n : ℕ) → Clear 0 (flagsOf (replicate n 0))
+zeros-clear n = flags-clear (replicate n 0) (zeros n)
+  where
+    zeros : (n i : ℕ) → _≡_ {A = ℕ} (getD (replicate n 0) i 0) 0
+    zeros zero i = refl
+    zeros (suc n) zero = refl
+    zeros (suc n) (suc i) = zeros n i
+
+-- The first i bytes are 0.
+pub record Clearing (bs₀ bs : List ℕ) (i : ℕ) : Type 0 where
+  pub same-length : length bs ≡ length bs₀
+  pub done : (j : ℕ) → j < i → getD bs j 0 ≡ 0
+
+pub clearing-none : (bs : List ℕ) → Clearing bs bs 0
+clearing-none bs = record { same-length = refl; done = λ j h. absurd (omega arith) }
+
+pub clearing-more : {bs₀ bs : List ℕ} {i : ℕ} → Clearing bs₀ bs i → i < length bs → Clearing bs₀ (set bs i 0) (i + 1)
+clearing-more {bs = bs} {i} c h = record {
+  same-length = length-set bs i 0 ∙ c .same-length;
+  done = λ j g. split (eqb j i)
+      (λ e. rw (same j i e) (getD-set-same bs i 0 0 h))
+      (λ e. let d = eqb-false j i e in getD-set-other bs i j 0 0 d ∙ c .done j (omega arith));
+}
+
+pub clearing-all : {bs₀ bs : List ℕ} {i : ℕ} → Clearing bs₀ bs i → length bs ≤ i → Clear 0 (flagsOf bs)
+clearing-all {bs = bs} {i} c h =
+    flags-clear bs (λ j. split (ltb j i) (λ e. c .done j (ltb-true j i e)) (λ e. List·getD-eq-default bs 0 {n = j} (omega (arith, ltb-false j i e))))

@@ -4,12 +4,13 @@ use mathlib.Core.Path.{_≡_, sym, _∙_}
 use mathlib.Core.Bool.{true≢false}
 use mathlib.Core.List.{List}
 use native.Mathlib.Omega.{arith}
+use lib.ListN.{getD}
 use lib.Dec.{eqb}
 use borrow.Author.Tests.{eqb-false}
 use denote.Ref.{now}
 use Rattle.pages.proofs.Choice.{split, same}
 use Rattle.pages.proofs.Once.{OneResult, OneBuffer}
-use Rattle.filter.specs.Filter.{flagsOf, FirstNoted}
+use Rattle.filter.specs.Filter.{flagsOf, Clear, FirstNoted}
 use Rattle.filter.proofs.Finding.{first-after}
 use Rattle.filter.proofs.find.Kinds as find
 use Rattle.filter.proofs.find.Reads.{Post as find-post}
@@ -37,6 +38,10 @@ find-unflagged-once κs args x y s t p q = p ∙ sym q
 
 pub put-flag-once : OneBuffer put-flag.ps put-flag.r put-flag-post (λ κs s. flagsOf (now (s .0)))
 put-flag-once κs args x y s t p q = p ∙ sym q
+
+-- Of two rows that `clear_flags` leaves no flag is set.
+pub clear-flags-once : (a b : List ℕ) → Clear 0 (flagsOf a) → Clear 0 (flagsOf b) → (j : ℕ) → getD (flagsOf a) j 0 ≡ getD (flagsOf b) j 0
+clear-flags-once a b p q j = p j (omega arith) ∙ sym (q j (omega arith))
 
 pub is-at-once : OneResult is-at.ps is-at.r is-at-post
 is-at-once κs args x y s t p q = p ∙ sym q

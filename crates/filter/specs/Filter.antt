@@ -80,6 +80,10 @@ unfoldable pub flagsOf : List ℕ → List ℕ
 flagsOf [] = []
 flagsOf (b ∷ bs) = b % 2 ∷ b / 2 % 2 ∷ flagsOf bs
 
+-- No flag from place c on is set.
+abbrev pub Clear : ℕ → List ℕ → Type 0
+Clear c flags = (j : ℕ) → c ≤ j → getD flags j 0 ≡ 0
+
 -- Whether a flag is 1, or is not, as is asked.
 unfoldable pub flagIs : Bool → ℕ → Bool
 flagIs on flag = cond on (eqb flag 1) (not (eqb flag 1))

@@ -8,7 +8,7 @@ ghost use lib.Dec.{eqb};
 ghost use Rattle.pages.specs.Pages.{has, add as added, place};
 ghost use Rattle.trace.specs.Layout.{itemAt};
 ghost use Rattle.chains.specs.Chains.{headsWith, nextWith};
-ghost use Rattle.filter.specs.Filter.{pagesIn, Stands, Notes, buckets, bucketOf, Holds, IsFilter, CanAdd, FirstNoted, flagIs, placeIf, emptyBase, emptyHeads, flagsOf};
+ghost use Rattle.filter.specs.Filter.{pagesIn, Stands, Notes, buckets, bucketOf, Holds, IsFilter, CanAdd, FirstNoted, flagIs, placeIf, emptyBase, emptyHeads, flagsOf, Clear};
 
 // How many heads there are. 1,024 of two bytes, with 1,024 places of four and two, make 8 KiB.
 pub const BUCKETS: usize = 1024;
@@ -130,6 +130,17 @@ pub fn put_flag(flags: &mut [u8], j: usize, v: u8)
         flags[i] = b / 2 % 2 * 2 + v;
     } else {
         flags[i] = b % 2 + 2 * v;
+    }
+}
+
+// No flag is set.
+pub fn clear_flags(flags: &mut [u8])
+    ensures { λ _. ⌜ Clear 0 (flagsOf (now (flags .exit))) ⌝ }
+{
+    let mut i = 0;
+    while i < flags.len() {
+        flags[i] = 0;
+        i += 1;
     }
 }
 

@@ -6,7 +6,7 @@ use mathlib.Core.List.{List, [], _∷_, _++_, append-nil, append-assoc}
 use native.Mathlib.Nat.{add-zero}
 use native.Mathlib.Omega.{arith}
 use lib.ListN.{length, getD, take, set, length-append, length-set}
-use lib.Seq.{sets, length-take-le, take-append-seam}
+use lib.Seq.{sets, length-take-le, take-append-seam, set-getD, getD-set-other}
 use lib.Dec.{ltb, eqb}
 use borrow.Author.Tests.{ltb-true, lt-ltb, le-ltb, eqb-false}
 use Rattle.pages.specs.Rows.{consIf}
@@ -24,7 +24,7 @@ use Rattle.slim.specs.declared.Mode.the-variants.{Demand}
 use Rattle.slim.proofs.Kept.{first-kept, last-kept}
 use Rattle.slim.proofs.Flags.{place-taken, owes-new, owes-more, flags-new, flags-more, flags-most}
 use Rattle.pages.proofs.Table.{has-taken, has-within, place-within}
-use Rattle.filter.specs.Filter.{Notes, FirstNoted}
+use Rattle.filter.specs.Filter.{Notes, FirstNoted, Clear}
 use Rattle.filter.proofs.Noting.{notes-long, notes-told}
 use Rattle.filter.proofs.Finding.{first-after}
 
@@ -183,6 +183,7 @@ pub record Keeping (file : List ℕ) (from end had done : ℕ) (filter last : Li
   pub owing : (owed : List ℕ) → Owes (take had filter) flags₀ owed
       → Owing filter flags c (itemsFrom file k (end - k)) (lost Demand (take had filter) owed (itemsFrom file from (end - from)))
   pub counted : n ≡ flagsSet c flags
+  pub clear : Clear c flags
   pub skipped : NoneNoted (take held last) k skip
 
 -- Nothing is kept yet.
@@ -202,6 +203,7 @@ keeping-none {done = done} held {out = out} p = record {
   flags-same = refl;
   owing = λ owed o. record { now-owed = owed; owes = o; then-owed = refl };
   counted = p .owing-is;
+  clear = p .clear;
   skipped = record { none = λ i a b. absurd (omega arith) };
 }
 
@@ -225,10 +227,10 @@ module _ {file : List ℕ} {from end had done : ℕ} {filter last : List ℕ} {h
 
     -- A turn is done that keeps the items a.
     passed : {c′ m′ n′ skip′ : ℕ} {a : List Item} {flags′ out′ : List ℕ} → Turn filter last flags k c x (itemsFrom file (k + 1) (end - (k + 1))) c′ a flags′
-        → Wrote m a out out′ → m′ ≡ m + length a → length a ≤ 1 → length flags′ ≡ length flags → n′ ≡ flagsSet c′ flags′
+        → Wrote m a out out′ → m′ ≡ m + length a → length a ≤ 1 → length flags′ ≡ length flags → n′ ≡ flagsSet c′ flags′ → Clear c′ flags′
         → NoneNoted (take held last) (k + 1) skip′
         → Keeping file from end had done filter last held flags₀ out₀ (k + 1) c′ m′ n′ skip′ flags′ out′
-    passed {a = a} t w e s f g u = record {
+    passed {a = a} t w e s f g v u = record {
       within = omega arith;
       left = t .next;
       so-far = r .so-far ++ a;
@@ -245,6 +247,7 @@ module _ {file : List ℕ} {from end had done : ℕ} {filter last : List ℕ} {h
           let z = t .owes (b .now-owed) (b .owes) in
           record { now-owed = z .now-owed; owes = z .owes; then-owed = z .then-owed ∙ (rw rest at (b .then-owed)) };
       counted = g;
+      clear = v;
       skipped = u;
     }
 
@@ -257,13 +260,16 @@ module _ {file : List ℕ} {from end had done : ℕ} {filter last : List ℕ} {h
       pub keeping-flag : b ≡ true → c < length flags
       keeping-flag t = omega (arith, same _ c (sym q ∙ t), place-within (x .page) filter keeping-has, r .flags-long)
 
-      -- The item is the first of its page, and is written.
+      -- The item is the first of its page, and is written. Its page's flag is not set.
       pub keeping-new : b ≡ true → {out′ : List ℕ} → out′ ≡ sets out (23 + 19 * m) (encodeItem x)
-          → Keeping file from end had done filter last held flags₀ out₀ (k + 1) (c + 1) (m + 1) n skip (set flags c 0) out′
-      keeping-new t w =
+          → Keeping file from end had done filter last held flags₀ out₀ (k + 1) (c + 1) (m + 1) n skip flags out′
+      keeping-new t {out′} w =
           let l = keeping-flag t in
+          let z : set flags c 0 ≡ flags = rw (r .clear c (omega arith)) at (set-getD flags c 0) in
+          let p : Keeping file from end had done filter last held flags₀ out₀ (k + 1) (c + 1) (m + 1) n skip (set flags c 0) out′ =
           passed (turn-new here refl (omega (arith, same _ c (sym q ∙ t))) l) (wrote-one w) (omega arith) (omega arith) (length-set flags c 0)
-          (r .counted ∙ sym (flags-new c flags l)) (record { none = λ i a b. r .skipped .none i (omega arith) b })
+          (r .counted ∙ sym (flags-new c flags l)) (λ i o. rw z (r .clear i (omega arith))) (record { none = λ i a b. r .skipped .none i (omega arith) b }) in
+          rw z at p
 
       module _ (t : b ≡ false) (f : Notes file last held filter) {skip′ : ℕ} (g : FirstNoted (take held last) k skip′) where
         before : place (x .page) filter < c
@@ -284,7 +290,7 @@ module _ {file : List ℕ} {from end had done : ℕ} {filter last : List ℕ} {h
         -- The item is the last of its page, and is written.
         pub keeping-last : skip′ ≡ k → {out′ : List ℕ} → out′ ≡ sets out (23 + 19 * m) (encodeItem x)
             → Keeping file from end had done filter last held flags₀ out₀ (k + 1) c (m + 1) n skip′ flags out′
-        keeping-last d w = passed (turn-last here refl before (same _ k (told ∙ g .here d))) (wrote-one w) (omega arith) (omega arith) refl (r .counted) onward
+        keeping-last d w = passed (turn-last here refl before (same _ k (told ∙ g .here d))) (wrote-one w) (omega arith) (omega arith) refl (r .counted) (r .clear) onward
 
         module _ (d : skip′ ≡ k → ⊥) where
           other : getD last (place (x .page) filter) 0 ≡ k → ⊥
@@ -292,7 +298,7 @@ module _ {file : List ℕ} {from end had done : ℕ} {filter last : List ℕ} {h
 
           -- It is neither the first nor the last: a read,
           pub keeping-skip : x .written ≡ false → Keeping file from end had done filter last held flags₀ out₀ (k + 1) c m n skip′ flags out
-          keeping-skip z = passed (turn-skip here refl before other z) (wrote-none m out) (omega arith) (omega arith) refl (r .counted) onward
+          keeping-skip z = passed (turn-skip here refl before other z) (wrote-none m out) (omega arith) (omega arith) refl (r .counted) (r .clear) onward
 
           -- or a write, which its page is owed.
           pub keeping-drop : x .written ≡ true → {n′ : ℕ} → n′ ≡ cond (eqb (getD flags (place (x .page) filter) 0) 1) n (n + 1)
@@ -302,7 +308,9 @@ module _ {file : List ℕ} {from end had done : ℕ} {filter last : List ℕ} {h
               let l : place (x .page) filter < length flags = omega (arith, before, here .before, r .flags-long) in
               let more = flags-more c flags (place (x .page) filter) before l in
               let now = u ∙ sym (rw (← r .counted) at more) in
-              rw v (passed (turn-drop here refl before other z l) (wrote-none m out) (omega arith) (omega arith) (length-set flags (place (x .page) filter) 1) now onward)
+              let clear : Clear c (set flags (place (x .page) filter) 1) =
+              λ i o. getD-set-other flags (place (x .page) filter) i 1 0 (λ y. omega (arith, before)) ∙ r .clear i o in
+              rw v (passed (turn-drop here refl before other z l) (wrote-none m out) (omega arith) (omega arith) (length-set flags (place (x .page) filter) 1) now clear onward)
 
   module _ (h : end ≤ k) where
     -- What is kept so far is all.
@@ -327,6 +335,7 @@ module _ {file : List ℕ} {from end had done : ℕ} {filter last : List ℕ} {h
     unfolding lost touched
     keeping-flags = record {
       count = r .counted ∙ ap (λ (c : ℕ). flagsSet c flags) (sym (length-take-le c filter (r .left .before)) ∙ ap length (sym passed-all));
+      clear = λ i o. r .clear i (omega (arith, r .left .before));
       owes = λ owed o.
           let b = r .owing owed o in
           let f = passed-all in

@@ -7,8 +7,8 @@ use mathlib.Core.List.{List, [], _∷_, _++_, append-nil, append-assoc}
 use native.Mathlib.Omega.{arith}
 use lib.ListN.{length, getD, set, length-append, length-set}
 use lib.Seq.{sets, length-sets, getD-set-same, getD-set-other}
-use lib.Dec.{eqb}
-use borrow.Author.Tests.{eq-eqb, ne-eqb, eqb-false}
+use lib.Dec.{eqb, ltb}
+use borrow.Author.Tests.{eq-eqb, ne-eqb, eqb-false, ltb-true, ltb-false}
 use Rattle.pages.specs.Pages.{has, place}
 use Rattle.pages.proofs.Choice.{split, same, eqb-self}
 use Rattle.pages.proofs.Added.{has-join}
@@ -16,7 +16,7 @@ use Rattle.pages.proofs.Table.{place-within, place-same}
 use Rattle.trace.specs.Layout.{itemAt, encodeItem, encodeItems}
 use Rattle.trace.specs.declared.Item.{Item}
 use Rattle.trace.proofs.Output.{wrote-item, wrote-again}
-use Rattle.filter.specs.Filter.{flagIs, placeIf}
+use Rattle.filter.specs.Filter.{flagIs, placeIf, Clear}
 use Rattle.slim.specs.Epochs.{pages}
 use Rattle.slim.specs.Keep.{isLast, settle, settled}
 use Rattle.slim.specs.Passes.{flagsSet, CanMend, Fit, Stand, Mended}
@@ -60,6 +60,7 @@ pub record Settling (filter flags out : List ℕ) (from k : ℕ) (old : List ℕ
 pub record Mending (filter flags₀ : List ℕ) (held from to : ℕ) (out₀ flags out : List ℕ) (k left : ℕ) : Type 0 where
   pub long : length filter ≡ held
   pub left-is : left ≡ flagsSet held flags
+  pub clear : Clear held flags
   pub begins : from ≤ k
   pub ends : k ≤ to
   pub room : 23 + 19 * to ≤ length out
@@ -68,6 +69,13 @@ pub record Mending (filter flags₀ : List ℕ) (held from to : ℕ) (out₀ fla
   pub flags-same : length flags ≡ length flags₀
   pub settling : (old : List ℕ) (u : List Item) (owed : List ℕ) → Stand filter flags₀ from to out₀ old u owed → Settling filter flags out from k old u owed
 
+-- Where none of the first flags is set, and none behind them, none is.
+none-set : (held : ℕ) (flags : List ℕ) → flagsSet held flags ≡ 0 → Clear held flags → ((j : ℕ) → getD flags j 0 ≤ 1) → Clear 0 flags
+none-set held flags z clear bits j o =
+    split (ltb j held)
+    (λ t. let n = flags-none held flags z j (ltb-true j held t) in let b = bits j in omega arith)
+    (λ t. clear j (ltb-false j held t))
+
 -- Nothing is settled yet.
 pub mending-none : (filter flags : List ℕ) (from to held owing : ℕ) (out : List ℕ) → length filter ≡ held → CanMend from to held owing out flags
     → Mending filter flags held from to out flags out to owing
@@ -75,6 +83,7 @@ unfolding has pages settled
 mending-none filter flags from to held owing out l can = record {
   long = l;
   left-is = can .owing-is;
+  clear = can .clear;
   begins = can .within;
   ends = omega arith;
   room = can .room;
@@ -109,6 +118,10 @@ module _ {filter flags₀ : List ℕ} {held from to : ℕ} {out₀ flags out : L
         sym (b .flagged p known) ∙ ne-eqb _ 1 (flags-none held flags none (place p filter) (omega (arith, place-within p filter known, r .long)))) in
         b .wrote ∙ ap (λ (t : List Item). sets old (23 + 19 * from) (encodeItems t)) (sym front ∙ ap (settled owed) (sym (b .are)));
   }
+
+  -- Then none at all is.
+  pub mending-clear : left ≡ 0 → ((j : ℕ) → getD flags j 0 ≤ 1) → Clear 0 flags
+  mending-clear z bits = none-set held flags (sym (r .left-is) ∙ z) (r .clear) bits
 
   -- All is settled.
   pub mending-all : k ≤ from → Mended filter flags₀ from to out₀ out
@@ -193,12 +206,13 @@ module _ {filter flags₀ : List ℕ} {held from to : ℕ} {out₀ flags out : L
     own old u owed t = t .flagged (x .page) (t .known)
 
     -- A turn is done.
-    go : (flags′ out′ : List ℕ) {left′ : ℕ} → length flags′ ≡ length flags → length out′ ≡ length out → left′ ≡ flagsSet held flags′
+    go : (flags′ out′ : List ℕ) {left′ : ℕ} → length flags′ ≡ length flags → length out′ ≡ length out → left′ ≡ flagsSet held flags′ → Clear held flags′
         → ((old : List ℕ) (u : List Item) (owed : List ℕ) → Turn old u owed → Settling filter flags′ out′ from (k - 1) old u owed)
         → Mending filter flags₀ held from to out₀ flags′ out′ (k - 1) left′
-    go flags′ out′ a b n c = record {
+    go flags′ out′ a b n d c = record {
       long = r .long;
       left-is = n;
+      clear = d;
       begins = omega arith;
       ends = omega (arith, r .ends);
       room = rw b (r .room);
@@ -217,7 +231,8 @@ module _ {filter flags₀ : List ℕ} {held from to : ℕ} {out₀ flags out : L
         let l : j < length flags = omega (arith, r .long, r .flags-long) in
         let y : Item = record { page = x .page; time = x .time; written = true } in
         let less = flags-less held flags j o z l in
-        go (set flags j 0) out′ (length-set flags j 0) (ap length w ∙ length-sets out (23 + 19 * (k - 1)) (encodeItem y)) (omega (arith, less, r .left-is)) (λ old u owed t.
+        go (set flags j 0) out′ (length-set flags j 0) (ap length w ∙ length-sets out (23 + 19 * (k - 1)) (encodeItem y)) (omega (arith, less, r .left-is))
+        (λ i g. getD-set-other flags j i 0 0 (λ y. omega arith) ∙ r .clear i g) (λ old u owed t.
         let v : not (has (x .page) (pages (t .back))) && has (x .page) owed ≡ true = sym (own old u owed t) ∙ rw q at (eq-eqb (getD flags j 0) 1 z) in
         let at : k - 1 ≡ from + length (t .front) = omega (arith, t .at) in
         let settles : settle owed x (t .back) ≡ y = rw (v, or-true (x .written)) in
@@ -238,7 +253,7 @@ module _ {filter flags₀ : List ℕ} {held from to : ℕ} {out₀ flags out : L
     pub mending-leave : held ≤ j → Mending filter flags₀ held from to out₀ flags out (k - 1) left
     unfolding has pages isLast settle settled
     mending-leave o =
-        go flags out refl refl (r .left-is) (λ old u owed t.
+        go flags out refl refl (r .left-is) (r .clear) (λ old u owed t.
         let n : eqb (getD flags (place (x .page) filter) 0) 1 ≡ false = ne-eqb _ 1 (missed o (place-within (x .page) filter (t .known))) in
         let v : not (has (x .page) (pages (t .back))) && has (x .page) owed ≡ false = sym (own old u owed t) ∙ n in
         let at : k - 1 ≡ from + length (t .front) = omega (arith, t .at) in
@@ -259,3 +274,6 @@ module _ {filter flags₀ : List ℕ} {held from to : ℕ} {out₀ flags out : L
 pub mending-quiet : (filter flags : List ℕ) (from to held owing : ℕ) (out : List ℕ) → length filter ≡ held → CanMend from to held owing out flags → owing ≡ 0
     → Mended filter flags from to out out
 mending-quiet filter flags from to held owing out l can z = mending-stop (mending-none filter flags from to held owing out l can) z
+
+pub quiet-clear : {from to held owing : ℕ} {out flags : List ℕ} → CanMend from to held owing out flags → owing ≡ 0 → ((j : ℕ) → getD flags j 0 ≤ 1) → Clear 0 flags
+quiet-clear {held = held} {flags = flags} can z bits = none-set held flags (sym (can .owing-is) ∙ z) (can .clear) bits

@@ -31,7 +31,7 @@ use Rattle.trace.proofs.Output.{Wrote, wrote-file}
 use Rattle.chains.proofs.Chained.{low-zeros}
 use Rattle.filter.specs.Filter.{buckets, flagsOf}
 use Rattle.filter.proofs.Filling.{holds-none}
-use Rattle.filter.proofs.Bits.{flags-length}
+use Rattle.filter.proofs.Bits.{flags-length, zeros-clear}
 use Rattle.slim.specs.Keep.{reduce}
 use Rattle.slim.specs.Passes.{CanSlim}
 use Rattle.slim.specs.Reduce.{isMode, modeOf, keptOf, reducedHeader, reducedFile, falls, reduceTests, reduceVerdict, reduceAnswer, reduceOut}
@@ -124,6 +124,7 @@ module _ (f : List ℕ) (mode size : ℕ) (out : List ℕ) (v : reduceVerdict f 
           filter = holds-none f (replicate filterMost 0) (low-zeros buckets) (omega arith) (omega arith) (omega arith);
           room = a .most;
           flags = omega (arith, a .most, flags-length (replicate 512 0), length-replicate {A = ℕ} 512 0);
+          clear = zeros-clear 512;
           octets = b;
           fits = omega (arith, long-is);
         }

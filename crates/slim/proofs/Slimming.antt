@@ -13,7 +13,7 @@ use Rattle.pages.specs.Rows.{flat}
 use Rattle.pages.specs.Pages.{has, add}
 use Rattle.pages.proofs.Choice.{split, same, or-false as or-neither}
 use Rattle.pages.proofs.Added.{has-join}
-use Rattle.filter.specs.Filter.{pagesOf, pagesIn, Holds, IsFilter}
+use Rattle.filter.specs.Filter.{pagesOf, pagesIn, Holds, IsFilter, Clear}
 use Rattle.filter.proofs.Noting.{notes-long}
 use Rattle.filter.proofs.Filling.{holds-in}
 use Rattle.trace.specs.Layout.{item, itemAt, itemsOf, itemsFrom, encodeItems}
@@ -88,6 +88,7 @@ pub record Slimming (file : List ℕ) (n : ℕ) (mode : Mode) (size : ℕ) (last
   pub known : (p : ℕ) → has p (pages here) ≡ true → has p (pagesIn file last held) ≡ true
   pub owes : Owes (pagesIn file last held) owed owing
   pub left-is : left ≡ flagsSet held owed
+  pub clear : Clear held owed
   pub over : n ≤ i → here ≡ []
   pub all : done ++ reduceFrom mode size (pagesIn file last held) owing here (itemsFrom file i (n - i)) ≡ reduce mode size (itemsFrom file 0 n)
 
@@ -119,6 +120,7 @@ slimming-none file n mode size last heads next owed out c = record {
   known = λ p h. absurd (false≢true h);
   owes = owes-none owed;
   left-is = refl;
+  clear = c .clear;
   over = λ h. refl;
   all = rw (sub-zero, reduce-start mode size (itemsFrom file 0 n));
 }
@@ -183,6 +185,7 @@ module _ {file : List ℕ} {n : ℕ} {mode : Mode} {size : ℕ} {last₀ heads�
             filter-is = rw (← seen-long, filter-begins F (pagesIn file last held) t filter-is) filter-is;
             notes = omega (arith, held-long, k .filter .notes .within);
             flags-long = omega (arith, held-long, s .owed-long, s .can .flags);
+            clear = s .clear;
             owing-is = s .left-is;
             last-noted = rw filter-is (k .last-noted);
             room = omega (arith, s .out-long);
@@ -281,6 +284,9 @@ module _ {file : List ℕ} {n : ℕ} {mode : Mode} {size : ℕ} {last₀ heads�
         now-left : left′ ≡ flagsSet (r .held) owed′
         now-left = rw held-long at (g .count)
 
+        now-clear : Clear (r .held) owed′
+        now-clear = rw held-long at (g .clear)
+
         pub slimming-mend : CanMend past m′ (r .held) left′ out′ owed′
         slimming-mend =
             let b = bounds in
@@ -289,6 +295,7 @@ module _ {file : List ℕ} {n : ℕ} {mode : Mode} {size : ℕ} {last₀ heads�
               room = omega (arith, now-few, s .can .fits, wrote-long now-wrote, wrote-long (s .wrote-done), w .ends);
               flags-long = omega (arith, s .owed-long, s .can .flags);
               owing-is = now-left;
+              clear = now-clear;
             }
 
         now-ready : Ready mode size (emptied size (pagesIn file last′ (r .held))) (itemsFrom file (r .end) (n - r .end))
@@ -316,11 +323,11 @@ module _ {file : List ℕ} {n : ℕ} {mode : Mode} {size : ℕ} {last₀ heads�
         -- The epoch is mended, and the filter emptied.
         pub slimming-full : eqb (r .held) size || eqb (r .end) n ≡ true → {owed″ out″ : List ℕ}
             → Mended (pagesIn file last′ (r .held)) owed′ past m′ out′ out″
-            → length owed″ ≡ length owed′ → {base′ : ℕ} {heads″ : List ℕ}
+            → Clear 0 owed″ → length owed″ ≡ length owed′ → {base′ : ℕ} {heads″ : List ℕ}
             → Holds file last′ 0 base′ heads″ next′ [] → length heads″ ≡ length heads′
             → Slimming file n mode size last₀ heads₀ next₀ owed₀ out₀ last′ heads″ next′ owed″ out″ (r .end) 0 base′ m′ m′ 0
         unfolding pagesOf has pages flagsSet
-        slimming-full t {owed″} {out″} me ol′ a hl′ =
+        slimming-full t {owed″} {out″} me cl ol′ a hl′ =
             let (ready, settles) = now-over t in
             let wr : Wrote 0 (s .done ++ settled now-owing now-here) out₀ out″ =
             wrote-then (s .wrote-done) (s .past-is ∙ sym (zero-add (length (s .done)))) (record { bytes-are = me .settles (s .mid) now-here now-owing now-stand }) in
@@ -348,6 +355,7 @@ module _ {file : List ℕ} {n : ℕ} {mode : Mode} {size : ℕ} {last₀ heads�
               known = λ p h. absurd (false≢true h);
               owes = owes-none owed″;
               left-is = refl;
+              clear = cl;
               over = λ h. refl;
               all = rw (append-assoc, ← settles) now-all;
             }
@@ -383,6 +391,7 @@ module _ {file : List ℕ} {n : ℕ} {mode : Mode} {size : ℕ} {last₀ heads�
               known = now-known;
               owes = now-owes;
               left-is = now-left;
+              clear = now-clear;
               over = λ h. absurd (omega (arith, w .ends));
               all = now-all;
             }

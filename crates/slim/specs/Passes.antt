@@ -11,7 +11,7 @@ use Rattle.pages.specs.Pages.{has, place}
 use Rattle.trace.specs.Layout.{itemsFrom, encodeItems}
 use Rattle.trace.specs.Promises.{AreBytes}
 use Rattle.trace.specs.declared.Item.{Item}
-use Rattle.filter.specs.Filter.{Holds, IsFilter}
+use Rattle.filter.specs.Filter.{Holds, IsFilter, Clear}
 use Rattle.slim.specs.Epochs.{pages, touched, cut}
 use Rattle.slim.specs.Keep.{kept, lost, settled}
 use Rattle.slim.specs.declared.Mode.{Mode}
@@ -65,7 +65,7 @@ unfoldable pub flagsSet : ℕ → List ℕ → ℕ
 flagsSet zero flags = 0
 flagsSet (suc j) flags = cond (eqb (getD flags j 0) 1) (suc (flagsSet j flags)) (flagsSet j flags)
 
--- The stretch from item `from` up to item `end`, where the filter had `had` pages before it, of which `owing` are flagged.
+-- The stretch from item `from` up to item `end`, where the filter had `had` pages before it, of which `owing` are flagged; no flag behind them is set.
 pub record CanKeep (file : List ℕ) (from end had done owing : ℕ) (filter last flags out : List ℕ) : Type 0 where
   pub file-long : 23 + 19 * end ≤ length file
   pub within : from ≤ end
@@ -74,6 +74,7 @@ pub record CanKeep (file : List ℕ) (from end had done owing : ℕ) (filter las
   pub notes : length filter ≤ length last
   pub flags-long : length filter ≤ length flags
   pub owing-is : owing ≡ flagsSet had flags
+  pub clear : Clear had flags
   pub last-noted : Noted from (itemsFrom file from (end - from)) filter last
   pub room : 23 + 19 * (done + (end - from)) ≤ length out
 
@@ -86,9 +87,10 @@ pub record Owes (filter flags owed : List ℕ) : Type 0 where
   pub flagged : (p : ℕ) → has p filter ≡ true → eqb (getD flags (place p filter) 0) 1 ≡ has p owed
   pub among : (p : ℕ) → has p filter ≡ false → has p owed ≡ false
 
--- The flags after the stretch, whatever was owed before it, and how many of them are set.
+-- The flags after the stretch, whatever was owed before it, and how many of them are set: none behind the filter's.
 pub record Flags (file : List ℕ) (from end had : ℕ) (filter flags flags′ : List ℕ) (owing : ℕ) : Type 0 where
   pub count : owing ≡ flagsSet (length filter) flags′
+  pub clear : Clear (length filter) flags′
   pub owes : (owed : List ℕ) → Owes (take had filter) flags owed
       → Owes filter flags′ (lost Demand (take had filter) owed (itemsFrom file from (end - from)))
 
@@ -100,6 +102,7 @@ pub record CanMend (from to held owing : ℕ) (out flags : List ℕ) : Type 0 wh
   pub room : 23 + 19 * to ≤ length out
   pub flags-long : held ≤ length flags
   pub owing-is : owing ≡ flagsSet held flags
+  pub clear : Clear held flags
 
 -- Pages and times are numbers of 64 bits.
 abbrev pub Fit : List Item → Type 0
@@ -129,5 +132,6 @@ pub record CanSlim (file : List ℕ) (n size : ℕ) (last heads next owed out : 
   pub filter : Holds file last 0 0 heads next []
   pub room : size ≤ length last
   pub flags : size ≤ length owed
+  pub clear : Clear 0 owed
   pub octets : AreBytes file
   pub fits : 23 + 19 * n ≤ length out

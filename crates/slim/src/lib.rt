@@ -15,7 +15,7 @@ ghost use lib.Dec.{eqb};
 ghost use Rattle.pages.specs.Rows.{over};
 ghost use Rattle.pages.specs.Pages.{has, place};
 ghost use Rattle.limits.proofs.Numbers.{filterMost};
-ghost use Rattle.filter.specs.Filter.{pagesIn, IsFilter, FirstNoted, flagsOf};
+ghost use Rattle.filter.specs.Filter.{pagesIn, IsFilter, FirstNoted, flagsOf, Clear};
 ghost use Rattle.trace.specs.declared.Verdict.the-variants.{Sound};
 ghost use Rattle.trace.specs.Layout.{encodeItems, itemsFrom};
 ghost use Rattle.slim.specs.Keep.{reduce as reduced};
@@ -181,7 +181,6 @@ fn keep(
         let x = trace::read::item_at(file, k);
         if filter::is_at(file, last, held, x.page, c) {
             trace::write::item(out, m, x);
-            filter::put_flag(owed, c, 0);
             c += 1;
             m += 1;
             k += 1;
@@ -205,6 +204,7 @@ fn keep(
 }
 
 // Back over the items of an epoch in the output, until all is settled: the last of each page that is owed a write becomes one.
+// No flag is set then, so that no page of the next epoch has to have its own cleared.
 fn mend(
     file: &[u8],
     last: &[u32],
@@ -221,6 +221,7 @@ fn mend(
     requires { ⌜ IsFilter (now file) (now last) held base (now heads) (now next) ⌝ }
     requires { ⌜ CanMend from to held owing (now out) (flagsOf (now owed)) ⌝ }
     ensures { λ _. ⌜ Mended (pagesIn (now (file .entry)) (now (last .entry)) held) (flagsOf (now (owed .entry))) from to (now (out .entry)) (now (out .exit)) ⌝ }
+    ensures { λ _. ⌜ Clear 0 (flagsOf (now (owed .exit))) ⌝ }
 {
     let mut left = owing;
     let mut k = to;
@@ -245,6 +246,7 @@ fn mend(
             k = a;
         }
     }
+    filter::clear_flags(owed);
 }
 
 // An epoch ends: its items are mended if one of its pages is owed a write. Else nothing is called, which short epochs would feel.
@@ -264,6 +266,7 @@ fn end_epoch(
     requires { ⌜ IsFilter (now file) (now last) held base (now heads) (now next) ⌝ }
     requires { ⌜ CanMend from to held owing (now out) (flagsOf (now owed)) ⌝ }
     ensures { λ _. ⌜ Mended (pagesIn (now (file .entry)) (now (last .entry)) held) (flagsOf (now (owed .entry))) from to (now (out .entry)) (now (out .exit)) ⌝ }
+    ensures { λ _. ⌜ Clear 0 (flagsOf (now (owed .exit))) ⌝ }
 {
     if owing == 0 {
         return;

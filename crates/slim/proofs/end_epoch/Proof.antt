@@ -1,7 +1,8 @@
 -- `slim::end_epoch` meets its contract. Assumes nothing.
 use borrow.Author.Needs.{needs}
 use Rattle.filter.proofs.Noting.{notes-long}
-use Rattle.slim.proofs.Mending.{mending-quiet}
+use Rattle.filter.proofs.Bits.{flag-bit}
+use Rattle.slim.proofs.Mending.{mending-quiet, quiet-clear}
 use Rattle.slim.proofs.end_epoch.Statement.{statement}
 use Rattle.slim.proofs.end_epoch.Tie as tie
 
@@ -9,7 +10,8 @@ use Rattle.slim.proofs.end_epoch.Tie as tie
 quiet : tie.Need-returns
 quiet c =
     let start = c .before .before .before .before .before .before .before in
-    mending-quiet _ _ _ _ _ _ _ (notes-long (start .pre .0 .notes)) (start .pre .1) (c .if1 .taken)
+    let long = notes-long (start .pre .0 .notes) in
+    (mending-quiet _ _ _ _ _ _ _ long (start .pre .1) (c .if1 .taken), quiet-clear (start .pre .1) (c .if1 .taken) (flag-bit _))
 
 pub end-epoch-spec : {M : Type 1} → statement M
 end-epoch-spec =

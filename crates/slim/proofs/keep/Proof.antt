@@ -18,18 +18,10 @@ Inv-loop file from end last held base heads next had out₀ done owed₀ owing k
 abbrev μ-loop : tie.MeasureT-loop
 μ-loop file from end last held base heads next had out₀ done owed₀ owing k₀ c₀ m₀ n₀ skip₀ out owed k c m n skip = end - k
 
--- The first item of a page has the page's flag cleared.
-may-put : tie.Need-put-flag-requires Inv-loop μ-loop
-may-put c κs =
-    let new = c .before .before .before .before .before in
-    let asked = new .before in
-    let turn = asked .before .before in
-    (keeping-flag (turn .before .loop .inv) (turn .loop-test .taken) (asked .before .item-at .ensures) (asked .is-at .ensures) (new .if1 .taken), omega arith)
-
 -- The count of pages fits: there is a flag for each.
 fits-pages : tie.Need-add-c Inv-loop μ-loop
 fits-pages c =
-    let new = c .before .before .before .before .before .before .before .before in
+    let new = c .before .before .before .before in
     let asked = new .before in
     let turn = asked .before .before in
     let start = turn .before .before .before .before .before .before .before .before in
@@ -43,7 +35,7 @@ fits-pages c =
 -- So does that of items written: the output has room for them.
 fits-new : tie.Need-add-m Inv-loop μ-loop
 fits-new c =
-    let turn = c .before .before .before .before .before .before .before .before .before .before .before in
+    let turn = c .before .before .before .before .before .before .before in
     let start = turn .before .before .before .before .before .before .before .before in
     let at = turn .before .loop .inv in
     let test = turn .loop-test .taken in
@@ -57,13 +49,11 @@ fits-new c =
 -- A turn writes an item that is the first of its page.
 one-new : tie.Need-loop-again Inv-loop μ-loop
 one-new c =
-    let put = c .before .before in
-    let written = put .before .before .before .before in
+    let written = c .before .before in
     let new = written .before .before in
     let asked = new .before in
     let turn = asked .before .before in
-    rw (put .put-flag .ensures)
-    (keeping-new (turn .before .loop .inv) (turn .loop-test .taken) (asked .before .item-at .ensures) (asked .is-at .ensures) (new .if1 .taken) (written .item .ensures))
+    keeping-new (turn .before .loop .inv) (turn .loop-test .taken) (asked .before .item-at .ensures) (asked .is-at .ensures) (new .if1 .taken) (written .item .ensures)
 
 -- Of another item it is asked whether it is noted.
 may-ask : tie.Need-noted-from-requires Inv-loop μ-loop
@@ -157,7 +147,6 @@ keep-spec =
     (λ c κs. search laws)
     (λ c κs. search laws)
     (λ c κs. search laws)
-    may-put
     fits-pages
     fits-new
     (λ c. search laws)

@@ -1,15 +1,16 @@
 -- `slim::mend` meets its contract. Assumes nothing.
 use Prim.Native.Nat.{_-_}
+use mathlib.Core.Path.{_∙_}
 use native.Mathlib.Omega.{arith}
 use borrow.Author.Needs.{needs}
 use Rattle.filter.specs.Filter.{pagesIn, flagsOf}
 use Rattle.filter.proofs.Noting.{notes-long}
-use Rattle.filter.proofs.Bits.{bytes-kept}
-use Rattle.slim.proofs.Mending.{Mending, mending-none, mending-long, mending-stop, mending-all, mending-set, mending-leave}
+use Rattle.filter.proofs.Bits.{flag-bit, bytes-kept}
+use Rattle.slim.proofs.Mending.{Mending, mending-none, mending-long, mending-stop, mending-clear, mending-all, mending-set, mending-leave}
 use Rattle.slim.proofs.mend.Statement.{statement}
 use Rattle.slim.proofs.mend.Tie as tie
 
-ruleset laws = (mending-none, mending-stop, mending-all, notes-long, needs)
+ruleset laws = (mending-none, notes-long, needs)
 
 abbrev Inv-loop : tie.InvT-loop
 Inv-loop file last held base heads next out₀ from to owed₀ owing left₀ k₀ out owed left k = Mending (pagesIn file last held) (flagsOf owed₀) held from to out₀ (flagsOf owed) out k left
@@ -37,7 +38,10 @@ bytes-stop : tie.Need-same-length-2 Inv-loop μ-loop
 bytes-stop c = bytes-kept _ _ (c .before .before .loop .inv .flags-same)
 
 bytes-all : tie.Need-same-length-4 Inv-loop μ-loop
-bytes-all c = bytes-kept _ _ (c .before .loop .inv .flags-same)
+bytes-all c =
+    let at = c .before .before .before .before .before in
+    let cleared = c .before .before .clear-flags .kept .0 in
+    cleared ∙ bytes-kept _ _ (at .loop .inv .flags-same)
 
 -- A turn settles the last item of a page that is owed a write,
 one-set : tie.Need-loop-again Inv-loop μ-loop
@@ -59,6 +63,19 @@ one-left c =
     let turn = read .before .before .before in
     mending-leave (turn .before .loop .inv) (turn .loop-test .taken) (read .item-at .ensures) (found .find-flagged .ensures) (c .if2 .left)
 
+-- No flag is set: all is settled.
+stops : tie.Need-returns Inv-loop μ-loop
+stops c =
+    let at = c .before .before in
+    (mending-stop (at .loop .inv) (c .if1 .taken), mending-clear (at .loop .inv) (c .if1 .taken) (flag-bit _))
+
+-- All items are passed.
+ends : tie.Need-returns-2 Inv-loop μ-loop
+ends c =
+    let cleared = c .before .before in
+    let past = cleared .before .before in
+    (mending-all (past .before .loop .inv) (past .loop-test .left), cleared .clear-flags .ensures)
+
 pub mend-spec : {M : Type 1} → statement M
 mend-spec =
     tie.close
@@ -68,7 +85,7 @@ mend-spec =
     (λ c. search laws)
     (λ c. search laws)
     bytes-stop
-    (λ c. search laws)
+    stops
     (λ c. search laws)
     (λ c κs. search laws)
     may-find
@@ -79,6 +96,7 @@ mend-spec =
     one-set
     (λ c. search laws)
     one-left
+    (λ c κs. search laws)
     (λ c. search laws)
     bytes-all
-    (λ c. search laws))
+    ends)

@@ -82,7 +82,7 @@ goes-full c =
     slimming-full (turn .before .loop .inv) (turn .loop-test .taken) (sized .limit-of .ensures)
     (looked .look .ensures .0) (looked .look .ensures .1) (same .0) (same .1 .1 .0) (same .1 .1 .1 .0)
     (wrote .keep .ensures .0) (wrote .keep .ensures .1 .0) (wrote .keep .ensures .1 .1) (flags-kept _ _ (wrote .keep .kept .1 .1 .1 .1 .1 .1 .1 .1 .1 .1 .1 .0))
-    (full .if1 .taken) (mended .end-epoch .ensures) (flags-kept _ _ (mended .end-epoch .kept .1 .1 .1 .1 .1 .1 .1 .1 .1 .0)) (emptied .empty .ensures .1 .1) (emptied .empty .kept .1 .1 .1 .1 .0)
+    (full .if1 .taken) (mended .end-epoch .ensures .0) (mended .end-epoch .ensures .1) (flags-kept _ _ (mended .end-epoch .kept .1 .1 .1 .1 .1 .1 .1 .1 .1 .0)) (emptied .empty .ensures .1 .1) (emptied .empty .kept .1 .1 .1 .1 .0)
 
 -- fewer are left after one that does not, and the next goes on with its pages.
 moves-else : tie.Need-loop-less-2 Inv-loop μ-loop
