@@ -18,8 +18,8 @@ use Rattle.trace.specs.Promises.{IsFile}
 use Rattle.trace.specs.Examples.{T, whole, fileT}
 use Rattle.trace.proofs.Accepted.{is-determined}
 use Rattle.trace.proofs.Octets.{octets-file}
-use Rattle.slim.specs.Epochs.{pages, cut, epochs}
-use Rattle.slim.specs.Keep.{isFirst, isLast, phase, keeps, settle, marked, reduce}
+use Rattle.epochs.specs.Epochs.{pages, cut, epochs}
+use Rattle.epochs.specs.Keep.{isFirst, isLast, phase, keeps, settle, marked, reduce}
 use Rattle.slim.specs.Reduce.{modeOf, keptOf, reducedHeader, reducedFile}
 use Rattle.join.specs.Join.{joinedKind, joinedHeader, joinedFile}
 use Rattle.join.specs.Trees.{files, joined}

@@ -20,9 +20,9 @@ use Rattle.trace.proofs.Append.{rising-parts}
 use Rattle.trace.proofs.Accepted.{accepted-header, accepted-count, accepted-facts, accepted-rising}
 use Rattle.trace.proofs.Octets.{octets-file}
 use Rattle.trace.proofs.RoundTrip.{reads-back, is-taken}
+use Rattle.epochs.specs.declared.Mode.{Mode}
+use Rattle.epochs.specs.declared.Mode.the-variants.{FastSlim, Demand}
 use Rattle.slim.specs.Reduce.{isMode}
-use Rattle.slim.specs.declared.Mode.{Mode}
-use Rattle.slim.specs.declared.Mode.the-variants.{FastSlim, Demand}
 use Rattle.join.specs.Trees.{Tree, files, joined, Within, headerOfAll}
 use Rattle.join.proofs.Trees.{joins-trees, sums-enough, joins-associate}
 use Rattle.lru.specs.Lru.{Event, Outcome, cost, words}

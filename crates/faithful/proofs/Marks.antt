@@ -10,8 +10,8 @@ use Rattle.pages.proofs.Choice.{split, same, eqb-self}
 use Rattle.frames.specs.Frames.{framed, pagesOf, dirty, taken}
 use Rattle.frames.specs.declared.Frame.{Frame}
 use Rattle.trace.specs.declared.Item.{Item}
-use Rattle.slim.specs.Epochs.{pages}
-use Rattle.slim.specs.Keep.{isLast, settle}
+use Rattle.epochs.specs.Epochs.{pages}
+use Rattle.epochs.specs.Keep.{isLast, settle}
 use Rattle.faithful.proofs.Frames.{dirty-absent, dirty-taken}
 
 -- The frame of an item's page, after the item.

@@ -16,12 +16,12 @@ use Rattle.trace.proofs.Accepted.{accepted-header, accepted-count, accepted-fac
 use Rattle.trace.proofs.Append.{rising-earlier}
 use Rattle.trace.proofs.Checking.{accepted-verdict}
 use Rattle.trace.proofs.Octets.{octets-file}
-use Rattle.slim.specs.Epochs.{epochs}
-use Rattle.slim.specs.Keep.{keeps, settle, owe, marked, reduce}
+use Rattle.epochs.specs.Epochs.{epochs}
+use Rattle.epochs.specs.Keep.{keeps, settle, owe, marked, reduce}
+use Rattle.epochs.specs.declared.Mode.{Mode}
+use Rattle.epochs.proofs.Greedy.{epochs-trace}
+use Rattle.epochs.proofs.Order.{reduce-length}
 use Rattle.slim.specs.Reduce.{modeOf, keptOf, reducedHeader, reducedFile, reduceVerdict}
-use Rattle.slim.specs.declared.Mode.{Mode}
-use Rattle.slim.proofs.Greedy.{epochs-trace}
-use Rattle.slim.proofs.Order.{reduce-length}
 use Rattle.slim.proofs.Reducing.{reducible-sound, reduce-written, reduce-file}
 use Rattle.slim.proofs.Accepted.{writes-reduced}
 use Rattle.join.specs.Trees.{itemsOfAll, largest, total, headerOfAll}

@@ -13,14 +13,14 @@ use Rattle.trace.specs.Bytes.{number, numberAt, bytes}
 use Rattle.trace.specs.Layout.{tagOf, field, encodeHeader, encodeItem, encodeItems, encode, header, item, itemsOf, items}
 use Rattle.trace.specs.Examples.{T}
 use Rattle.trace.specs.declared.Item.{Item}
-use Rattle.slim.specs.Epochs.{pages, cut, epochs}
-use Rattle.slim.specs.Keep.{isFirst, isLast, phase, keeps, settle, marked, reduce}
+use Rattle.epochs.specs.Epochs.{pages, cut, epochs}
+use Rattle.epochs.specs.Keep.{isFirst, isLast, phase, keeps, settle, marked, reduce}
 use Rattle.slim.specs.Reduce.{modeOf, keptOf, reducedHeader, reducedFile}
 use Rattle.join.specs.Join.{joinedKind, joinedHeader, joinedFile}
 use Rattle.join.specs.Trees.{Tree, joined}
 use Rattle.join.specs.Trees.Tree.{one, both}
 use Rattle.lru.specs.Lru.{hit, fetch, step, _then_, replay, word, cost, words}
-use Rattle.slim.specs.declared.Mode.the-variants.{FastSlim, Demand}
+use Rattle.epochs.specs.declared.Mode.the-variants.{FastSlim, Demand}
 use Rattle.faithful.specs.Parts.{Part}
 use Rattle.faithful.specs.Demand3.{short}
 use Rattle.faithful.specs.Corollaries.{portionOf, secondTransfers}

@@ -12,8 +12,8 @@ use Rattle.trace.specs.Layout.{header, items, encode}
 use Rattle.trace.specs.Promises.{IsFile}
 use Rattle.trace.specs.Examples.{whole}
 use Rattle.trace.specs.declared.Item.{Item}
-use Rattle.slim.specs.declared.Mode.{Mode}
-use Rattle.slim.specs.declared.Mode.the-variants.{FastSlim, Demand}
+use Rattle.epochs.specs.declared.Mode.{Mode}
+use Rattle.epochs.specs.declared.Mode.the-variants.{FastSlim, Demand}
 use Rattle.join.specs.Trees.{Tree, files, joined, Within}
 use Rattle.lru.specs.Lru.{Event, replay, cost}
 use Rattle.replays.specs.Replay.{replayOf, framesAfter, eventsAfter}

@@ -17,8 +17,8 @@ use Rattle.trace.specs.Verdict as verdicts
 use Rattle.trace.specs.Check.{isField, isItem, itemsVerdict, verdict}
 use Rattle.trace.specs.Examples.{_at_, _writes_, T, fileT}
 use Rattle.trace.specs.declared.Item.{Item}
-use Rattle.slim.specs.Epochs.{pages, cut, epochs}
-use Rattle.slim.specs.Keep.{isFirst, isLast, phase, keeps, settle, marked, reduce}
+use Rattle.epochs.specs.Epochs.{pages, cut, epochs}
+use Rattle.epochs.specs.Keep.{isFirst, isLast, phase, keeps, settle, marked, reduce}
 use Rattle.slim.specs.Reduce.{isMode, modeOf, keptOf, reducedHeader, reducedFile, falls, reduceVerdict, reduceAnswer}
 use Rattle.slim.specs.declared.Reduced.{Reduced}
 use Rattle.slim.specs.declared.Reduced.the-variants as reductions

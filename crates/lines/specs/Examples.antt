@@ -12,8 +12,8 @@ use Rattle.trace.specs.Rules.{allowed}
 use Rattle.trace.specs.Verdict.{first, _then_}
 use Rattle.trace.specs.Check.{isField, isItem, itemsVerdict, verdict}
 use Rattle.trace.specs.Examples.{_at_, _writes_, whole, fileT}
-use Rattle.slim.specs.Epochs.{pages, cut, epochs}
-use Rattle.slim.specs.Keep.{isFirst, isLast, phase, keeps, settle, marked, reduce}
+use Rattle.epochs.specs.Epochs.{pages, cut, epochs}
+use Rattle.epochs.specs.Keep.{isFirst, isLast, phase, keeps, settle, marked, reduce}
 use Rattle.slim.specs.Reduce.{isMode, modeOf, keptOf, reducedHeader, reducedFile, falls, reduceVerdict}
 use Rattle.lru.specs.Lru.{replay, step, hit, fetch, cost, _then_ as _and_}
 use Rattle.lru.specs.Tally.{tally, tallied, isFetch, isEviction, perMillion}

@@ -17,11 +17,11 @@ use Rattle.trace.specs.Layout.{encodeItem, encodeItems, itemAt, itemsFrom}
 use Rattle.trace.specs.declared.Item.{Item}
 use Rattle.trace.proofs.Items.{from-turn, from-none}
 use Rattle.trace.proofs.Output.{Wrote, wrote-none, wrote-one, wrote-then, wrote-long}
-use Rattle.slim.specs.Epochs.{pages, touched}
-use Rattle.slim.specs.Keep.{isFirst, isLast, keeps, kept, owe, lost}
+use Rattle.epochs.specs.Epochs.{pages, touched}
+use Rattle.epochs.specs.Keep.{isFirst, isLast, keeps, kept, owe, lost}
+use Rattle.epochs.specs.declared.Mode.the-variants.{Demand}
+use Rattle.epochs.proofs.Kept.{first-kept, last-kept}
 use Rattle.slim.specs.Passes.{lastPlace, Noted, NoneNoted, flagsSet, CanKeep, keptThere, Owes, Flags}
-use Rattle.slim.specs.declared.Mode.the-variants.{Demand}
-use Rattle.slim.proofs.Kept.{first-kept, last-kept}
 use Rattle.slim.proofs.Flags.{place-taken, owes-new, owes-more, flags-new, flags-more, flags-most}
 use Rattle.pages.proofs.Table.{has-taken, has-within, place-within}
 use Rattle.filter.specs.Filter.{Notes, FirstNoted, Clear}

@@ -15,9 +15,9 @@ use Rattle.trace.proofs.Items.{length-from, from-turn, from-none, from-more}
 use Rattle.filter.specs.Filter.{pagesIn, Holds, IsFilter, CanAdd}
 use Rattle.filter.proofs.Noting.{notes-long}
 use Rattle.filter.proofs.Filling.{holds-in, holds-again}
-use Rattle.slim.specs.Epochs.{pages, touched, cut}
+use Rattle.epochs.specs.Epochs.{pages, touched, cut}
+use Rattle.epochs.proofs.Greedy.{touched-append, has-touched, cut-goes, cut-begins}
 use Rattle.slim.specs.Passes.{Noted, CanLook, Looked}
-use Rattle.slim.proofs.Greedy.{touched-append, has-touched, cut-goes, cut-begins}
 use Rattle.slim.proofs.Noted.{noted-more}
 
 -- The first pass has passed the items from `from` up to k, and its filter holds c pages: the stretch is what is passed, and what it goes on with from item k on.

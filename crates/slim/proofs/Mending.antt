@@ -17,10 +17,10 @@ use Rattle.trace.specs.Layout.{itemAt, encodeItem, encodeItems}
 use Rattle.trace.specs.declared.Item.{Item}
 use Rattle.trace.proofs.Output.{wrote-item, wrote-again}
 use Rattle.filter.specs.Filter.{flagIs, placeIf, Clear}
-use Rattle.slim.specs.Epochs.{pages}
-use Rattle.slim.specs.Keep.{isLast, settle, settled}
+use Rattle.epochs.specs.Epochs.{pages}
+use Rattle.epochs.specs.Keep.{isLast, settle, settled}
+use Rattle.epochs.proofs.Marks.{pages-join, settled-front}
 use Rattle.slim.specs.Passes.{flagsSet, CanMend, Fit, Stand, Mended}
-use Rattle.slim.proofs.Marks.{pages-join, settled-front}
 use Rattle.slim.proofs.Flags.{flags-none, flags-less}
 
 -- ---- a row of items, from its end

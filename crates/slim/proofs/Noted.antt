@@ -11,7 +11,7 @@ use borrow.Author.Tests.{eqb-false}
 use Rattle.pages.specs.Pages.{has, add, place}
 use Rattle.pages.proofs.Choice.{split, same, eqb-self}
 use Rattle.trace.specs.declared.Item.{Item}
-use Rattle.slim.specs.Epochs.{pages}
+use Rattle.epochs.specs.Epochs.{pages}
 use Rattle.slim.specs.Passes.{lastPlace, Noted}
 use Rattle.pages.proofs.Table.{place-add, place-added, place-same}
 

@@ -32,13 +32,13 @@ use Rattle.chains.proofs.Chained.{low-zeros}
 use Rattle.filter.specs.Filter.{buckets, flagsOf}
 use Rattle.filter.proofs.Filling.{holds-none}
 use Rattle.filter.proofs.Bits.{flags-length, zeros-clear}
-use Rattle.slim.specs.Keep.{reduce}
+use Rattle.epochs.specs.Keep.{reduce}
+use Rattle.epochs.specs.declared.Mode.{Mode}
+use Rattle.epochs.proofs.Order.{reduce-length}
 use Rattle.slim.specs.Passes.{CanSlim}
 use Rattle.slim.specs.Reduce.{isMode, modeOf, keptOf, reducedHeader, reducedFile, falls, reduceTests, reduceVerdict, reduceAnswer, reduceOut}
-use Rattle.slim.specs.declared.Mode.{Mode}
 use Rattle.slim.specs.declared.Reduced.the-variants.{Written, Refused}
 use Rattle.slim.proofs.Judging.{flag-rising}
-use Rattle.slim.proofs.Order.{reduce-length}
 
 -- ---- what a sound verdict says
 

@@ -22,20 +22,20 @@ use Rattle.trace.specs.declared.Item.{Item}
 use Rattle.trace.proofs.Bytes.{numberAt-lt, drop-bytes}
 use Rattle.trace.proofs.Items.{length-from, from-turn, from-none, from-split}
 use Rattle.trace.proofs.Output.{Wrote, wrote-none, wrote-then, wrote-long}
-use Rattle.slim.specs.Epochs.{pages, touched, cut}
-use Rattle.slim.specs.Keep.{keeps, kept, reduce, lost, settled}
+use Rattle.epochs.specs.Epochs.{pages, touched, cut}
+use Rattle.epochs.specs.Keep.{keeps, kept, reduce, lost, settled}
+use Rattle.epochs.specs.declared.Mode.{Mode}
+use Rattle.epochs.specs.declared.Mode.the-variants.{FastSlim, Demand}
+use Rattle.epochs.proofs.Greedy.{cut-flat, has-touched}
+use Rattle.epochs.proofs.Through.{Next}
+use Rattle.epochs.proofs.Kept.{kept-sub}
+use Rattle.epochs.proofs.Order.{sub-length}
+use Rattle.epochs.proofs.Marks.{pages-join, kept-pages}
 use Rattle.slim.specs.Passes.{limit, CanLook, Looked, Within, CanKeep, keptThere, flagsSet, Owes, Flags, CanMend, Fit, Stand, Mended, CanSlim}
-use Rattle.slim.specs.declared.Mode.{Mode}
-use Rattle.slim.specs.declared.Mode.the-variants.{FastSlim, Demand}
 use Rattle.slim.specs.declared.Reach.{Reach}
-use Rattle.slim.proofs.Greedy.{cut-flat, has-touched}
 use Rattle.slim.proofs.Stretch.{reduceFrom, reduce-start, Ready, ready-start, stretch, beyond, emptied, emptied-full, emptied-else}
 use Rattle.slim.proofs.Stretch.{reduce-over, reduce-full, stretch-some, stretch-next, stretch-ready, stretch-kept}
-use Rattle.slim.proofs.Through.{Next}
-use Rattle.slim.proofs.Kept.{kept-sub}
-use Rattle.slim.proofs.Order.{sub-length}
 use Rattle.slim.proofs.Flags.{owes-none}
-use Rattle.slim.proofs.Marks.{pages-join, kept-pages}
 use Rattle.slim.proofs.Mending.{length-settled}
 use Rattle.slim.proofs.Keeping.{filter-grows, filter-begins}
 

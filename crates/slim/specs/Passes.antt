@@ -12,10 +12,10 @@ use Rattle.trace.specs.Layout.{itemsFrom, encodeItems}
 use Rattle.trace.specs.Promises.{AreBytes}
 use Rattle.trace.specs.declared.Item.{Item}
 use Rattle.filter.specs.Filter.{Holds, IsFilter, Clear}
-use Rattle.slim.specs.Epochs.{pages, touched, cut}
-use Rattle.slim.specs.Keep.{kept, lost, settled}
-use Rattle.slim.specs.declared.Mode.{Mode}
-use Rattle.slim.specs.declared.Mode.the-variants.{FastSlim, Demand}
+use Rattle.epochs.specs.Epochs.{pages, touched, cut}
+use Rattle.epochs.specs.Keep.{kept, lost, settled}
+use Rattle.epochs.specs.declared.Mode.{Mode}
+use Rattle.epochs.specs.declared.Mode.the-variants.{FastSlim, Demand}
 use Rattle.slim.specs.declared.Reach.{Reach}
 
 -- How many pages a stretch may leave in the filter that holds some: an epoch's, or for a phase one more.

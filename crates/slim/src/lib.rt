@@ -1,4 +1,5 @@
 // The two reductions of a trace, FastSlim and FastSlim-Demand.
+use epochs::Mode;
 use limits::Filter;
 use limits::FilterMade;
 use trace::Header;
@@ -18,18 +19,12 @@ ghost use Rattle.limits.proofs.Numbers.{filterMost};
 ghost use Rattle.filter.specs.Filter.{pagesIn, IsFilter, FirstNoted, flagsOf, Clear};
 ghost use Rattle.trace.specs.declared.Verdict.the-variants.{Sound};
 ghost use Rattle.trace.specs.Layout.{encodeItems, itemsFrom};
-ghost use Rattle.slim.specs.Keep.{reduce as reduced};
+ghost use Rattle.epochs.specs.Keep.{reduce as reduced};
 ghost use Rattle.slim.specs.Reduce.{isMode, modeOf, reducedHeader, reducedFile, reduceVerdict, reduceAnswer, reduceOut};
 ghost use Rattle.slim.specs.Passes.{limit, CanLook, Looked, Within, NoneNoted, CanKeep, keptThere, Flags, CanMend, Mended, CanSlim};
 
 // The bytes for a flag of each place of the filter.
 const FLAG_BYTES: usize = Filter::PLACES / 2;
-
-// FastSlim, or FastSlim-Demand.
-pub enum Mode {
-    FastSlim,
-    Demand,
-}
 
 pub enum Reduced {
     Written(Header),

@@ -9,12 +9,12 @@ use Rattle.pages.specs.Pages.{has, add}
 use Rattle.pages.proofs.Choice.{split, same, eqb-self, or-false as none-of}
 use Rattle.pages.proofs.Added.{has-join}
 use Rattle.trace.specs.declared.Item.{Item}
-use Rattle.slim.specs.Epochs.{pages, cut, epochs}
-use Rattle.slim.specs.Keep.{isLast, keeps, kept, chosen, settle, owe, marked, reduce, lost, settled}
-use Rattle.slim.specs.English.{KeepsSome, KeepsNone, dropsWrite, LastsBecomeWrites, Alike, MarksOnly, NoneDropped, NoWrites, NoneDroppedNoMarks, NoWritesNoMarks}
-use Rattle.slim.specs.declared.Mode.{Mode}
-use Rattle.slim.proofs.Kept.{comes-again, first-kept}
-use Rattle.slim.proofs.Greedy.{epochs-trace}
+use Rattle.epochs.specs.Epochs.{pages, cut, epochs}
+use Rattle.epochs.specs.Keep.{isLast, keeps, kept, chosen, settle, owe, marked, reduce, lost, settled}
+use Rattle.epochs.specs.English.{KeepsSome, KeepsNone, dropsWrite, LastsBecomeWrites, Alike, MarksOnly, NoneDropped, NoWrites, NoneDroppedNoMarks, NoWritesNoMarks}
+use Rattle.epochs.specs.declared.Mode.{Mode}
+use Rattle.epochs.proofs.Kept.{comes-again, first-kept}
+use Rattle.epochs.proofs.Greedy.{epochs-trace}
 
 and-nothing : (b : Bool) → b && false ≡ false
 and-nothing true = refl

@@ -7,10 +7,10 @@ use Rattle.pages.specs.Pages.{has, add}
 use Rattle.pages.proofs.Choice.{split}
 use Rattle.pages.proofs.Added.{add-old}
 use Rattle.trace.specs.declared.Item.{Item}
-use Rattle.slim.specs.Epochs.{pages, touched}
-use Rattle.slim.specs.Keep.{isFirst, isLast, phase, keeps}
-use Rattle.slim.specs.English.{DemandSentence, RestOfPhase, PhaseEnds, FastSlimSentence}
-use Rattle.slim.proofs.Greedy.{touched-append, touched-distinct}
+use Rattle.epochs.specs.Epochs.{pages, touched}
+use Rattle.epochs.specs.Keep.{isFirst, isLast, phase, keeps}
+use Rattle.epochs.specs.English.{DemandSentence, RestOfPhase, PhaseEnds, FastSlimSentence}
+use Rattle.epochs.proofs.Greedy.{touched-append, touched-distinct}
 
 -- An item is the first of its page exactly if no item before it has the page, and the last of its page in u exactly if none of u has it.
 first-or-last : (before u : List Item) (i : Item) → isFirst (touched [] before) i || isLast i u ≡ not (has (i .page) (pages before)) || not (has (i .page) (pages u))

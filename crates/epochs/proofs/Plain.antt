@@ -9,12 +9,12 @@ use Rattle.pages.specs.Rows.{consIf, flat}
 use Rattle.pages.specs.Pages.{has, add}
 use Rattle.pages.proofs.Choice.{split}
 use Rattle.trace.specs.declared.Item.{Item}
-use Rattle.slim.specs.Epochs.{pages, Cut, goesOn, begins, cut, epochs}
-use Rattle.slim.specs.Keep.{isFirst, isLast, phase, keeps, kept, chosen, reduce}
-use Rattle.slim.specs.English.{Alike, NoWrites, plain, MarksForgotten}
-use Rattle.slim.specs.declared.Mode.{Mode}
-use Rattle.slim.specs.declared.Mode.the-variants.{FastSlim, Demand}
-use Rattle.slim.proofs.Marks.{marks-only, no-writes-no-marks}
+use Rattle.epochs.specs.Epochs.{pages, Cut, goesOn, begins, cut, epochs}
+use Rattle.epochs.specs.Keep.{isFirst, isLast, phase, keeps, kept, chosen, reduce}
+use Rattle.epochs.specs.English.{Alike, NoWrites, plain, MarksForgotten}
+use Rattle.epochs.specs.declared.Mode.{Mode}
+use Rattle.epochs.specs.declared.Mode.the-variants.{FastSlim, Demand}
+use Rattle.epochs.proofs.Marks.{marks-only, no-writes-no-marks}
 
 -- A row without its marks.
 abbrev bare : List Item → List Item

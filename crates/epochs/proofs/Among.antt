@@ -8,11 +8,11 @@ use Rattle.pages.specs.Rows.{consIf, flat}
 use Rattle.pages.specs.Pages.{add}
 use Rattle.pages.proofs.Rows.{flat-append}
 use Rattle.trace.specs.declared.Item.{Item}
-use Rattle.slim.specs.Epochs.{touched, epochs}
-use Rattle.slim.specs.Keep.{keeps, kept, chosen}
-use Rattle.slim.specs.English.{Among, IsKept, ReducedIsKept}
-use Rattle.slim.specs.declared.Mode.{Mode}
-use Rattle.slim.proofs.Kept.{kept-exactly}
+use Rattle.epochs.specs.Epochs.{touched, epochs}
+use Rattle.epochs.specs.Keep.{keeps, kept, chosen}
+use Rattle.epochs.specs.English.{Among, IsKept, ReducedIsKept}
+use Rattle.epochs.specs.declared.Mode.{Mode}
+use Rattle.epochs.proofs.Kept.{kept-exactly}
 
 module _ (m : Mode) (i : Item) where
   -- ---- an item that is kept

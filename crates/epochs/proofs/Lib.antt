@@ -1,0 +1,10 @@
+pub mod Among
+pub mod ByMode
+pub mod Count
+pub mod Greedy
+pub mod Kept
+pub mod Marks
+pub mod Order
+pub mod Phases
+pub mod Plain
+pub mod Through

@@ -1,0 +1,4 @@
+pub mod Epochs
+pub mod Keep
+pub mod English
+pub mod Examples
