@@ -1,17 +1,15 @@
 -- A replay by the columns of the frames that can matter is the replay of the whole row. Assumes nothing.
 use Prim.Native.Nat.{ℕ, _+_, _≤_, _<_}
 use mathlib.Core.Path.{_≡_, refl, sym, ap, _∙_}
-use mathlib.Core.Bool.{Bool, true, false, cond, not, _||_}
-use mathlib.Core.List.{List, [], _∷_, _++_, map}
+use mathlib.Core.List.{List, _++_}
 use native.Mathlib.Omega.{arith}
-use lib.ListN.{length, take, drop, length-take, length-map, take-append-drop}
-use lib.Seq.{take-all, take-take, length-take-le, sets}
+use lib.ListN.{length, take, drop, length-map, take-append-drop}
+use lib.Seq.{take-all, take-take, length-take-le}
 use lib.Dec.{ltb, leb}
-use borrow.Author.Tests.{lt-ltb, le-ltb, ltb-true, ltb-false, leb-true, not-false}
+use borrow.Author.Tests.{lt-ltb, le-ltb, ltb-true, ltb-false, leb-true}
 use Rattle.limits.specs.Sizes.{between}
 use Rattle.limits.proofs.Numbers.{cacheLeast, cacheMost, paper}
 use Rattle.pages.specs.Rows.{over}
-use Rattle.pages.specs.Pages.{has}
 use Rattle.pages.proofs.Choice.{split, and-true}
 use Rattle.pages.proofs.Rows.{length-over, sets-over, sets-first}
 use Rattle.frames.specs.Frames.{pagesOf, marksOf, framesOf}
@@ -19,11 +17,9 @@ use Rattle.frames.specs.declared.Frame.{Frame}
 use Rattle.frames.proofs.Columns.{frames-whole, pages-take}
 use Rattle.trace.specs.Layout.{items}
 use Rattle.trace.specs.Verdict.{first}
-use Rattle.trace.specs.Check.{verdict}
 use Rattle.trace.specs.declared.Reason.{Reason}
 use Rattle.trace.specs.declared.Verdict.{Verdict}
 use Rattle.trace.specs.declared.Verdict.the-variants.{Sound, Faulty}
-use Rattle.lru.specs.Lru.{Outcome, replay}
 use Rattle.lru.proofs.Room.{stays-fine}
 use Rattle.replays.specs.Replay.{badStart, replayTests, replayVerdict, replayOf, summaryOf, replayAnswer, framesAfter, eventsAfter}
 use Rattle.replays.proofs.Judging.{replay-then, Playable, sound-playable}

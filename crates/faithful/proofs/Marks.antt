@@ -12,7 +12,8 @@ use Rattle.frames.specs.declared.Frame.{Frame}
 use Rattle.trace.specs.declared.Item.{Item}
 use Rattle.epochs.specs.Epochs.{pages}
 use Rattle.epochs.specs.Keep.{isLast, settle}
-use Rattle.faithful.proofs.Frames.{dirty-absent, dirty-taken}
+use Rattle.frames.proofs.By.{dirty-absent}
+use Rattle.frames.proofs.Apart.{dirty-taken}
 
 -- The frame of an item's page, after the item.
 abbrev pub touch : Item → List Frame → Frame

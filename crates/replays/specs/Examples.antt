@@ -15,7 +15,7 @@ use Rattle.trace.specs.Refusals.{refused}
 use Rattle.trace.specs.Verdict.{first}
 use Rattle.trace.specs.Verdict as verdicts
 use Rattle.trace.specs.Check.{isField, isItem, itemsVerdict, verdict}
-use Rattle.trace.specs.Examples.{_at_, T, fileT}
+use Rattle.trace.specs.Examples.{_at_, fileT}
 use Rattle.lru.specs.Lru.{hit, fetch, step, _then_, replay, word, cost, words}
 use Rattle.lru.specs.Tally.{isFetch, isEviction, tallied, tally, perMillion}
 use Rattle.replays.specs.Replay.{twice, badStart, replayVerdict, replayOf, summaryOf, replayAnswer, framesAfter, eventsAfter}

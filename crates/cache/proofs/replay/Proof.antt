@@ -2,7 +2,7 @@
 -- All that it knows of `reach` and `replay_by` is that each meets its contract.
 -- Assumes nothing.
 use mathlib.Core.Path.{_≡_, refl, sym, _∙_, ap, subst}
-use Prim.Native.Nat.{ℕ, zero, suc, _+_, _-_, _*_, _≤_, _<_, _^_}
+use Prim.Native.Nat.{ℕ, _+_, _-_, _*_, _≤_, _<_, _^_}
 use native.Mathlib.Omega.{arith}
 use mathlib.Core.Bool.{Bool, false}
 use mathlib.Core.List.{List, [], _∷_, _++_}
@@ -217,8 +217,10 @@ module _ {M : Type 1} (𝓤 : URA M) (H : Heap 𝓤) (A : Atoms 𝓤) (W : Given
   exits : (v : Val) → length Z ≡ length ys → length E′ ≡ length es → ent 𝓤 (⋆ 𝓤 H A (Had v)) (Post v)
   exits v lz le =
       qed W (Had v) ∵
-      suffices ! _ (ends-at 𝓤 H A top.ended stayed (top.clauses 𝓤 H A mem run) W ((κs, qs, tt, x, at), tt) v answer (tt, (tt, (Z, (tt, (E′, tt))))) (tt, (tt, (lz, (tt, (le, tt)))))) $ suffices ! _ (facts 𝓤 _ refl refl refl) $
-      nothing ! $ move ! (3 ∷ 0 ∷ []) $ join ! $ move ! (2 ∷ 0 ∷ []) $ join ! $ move ! (1 ∷ 0 ∷ []) $ join ! $ frame ! $ nothing ! $ move ! (3 ∷ 0 ∷ []) $ fjoin ! $ nothing ! $ fjoin ! $ move ! (2 ∷ 0 ∷ []) $ fjoin ! $ nothing ! $ fjoin ! $ move ! (1 ∷ 0 ∷ []) $ fjoin ! $ frame ! $ done !
+      suffices ! _ (ends-at 𝓤 H A top.ended stayed (top.clauses 𝓤 H A mem run) W ((κs, qs, tt, x, at), tt) v answer (tt, (tt, (Z, (tt, (E′, tt))))) (tt, (tt, (lz, (tt, (le, tt)))))) $
+      suffices ! _ (facts 𝓤 _ refl refl refl) $
+      nothing ! $ move ! (3 ∷ 0 ∷ []) $ join ! $ move ! (2 ∷ 0 ∷ []) $ join ! $ move ! (1 ∷ 0 ∷ []) $ join ! $ frame ! $ nothing ! $ move ! (3 ∷ 0 ∷ []) $ fjoin ! $
+      nothing ! $ fjoin ! $ move ! (2 ∷ 0 ∷ []) $ fjoin ! $ nothing ! $ fjoin ! $ move ! (1 ∷ 0 ∷ []) $ fjoin ! $ frame ! $ done !
 
   -- ---- `reach`
   abbrev to-reach : Reach 𝓤 H A mem run .Ghost
@@ -244,15 +246,19 @@ module _ {M : Type 1} (𝓤 : URA M) (H : Heap 𝓤) (A : Atoms 𝓤) (W : Given
       (sem 𝓤 H A (fsep (ShrSlice (named 0) κf u8 .own file-at sf) (fsep (u64 .own k₀ (vint w64 k₀ ∷ [])) (fsep (MutSlice (named 1) κ T.the-row .own fs-at s₀) (fsep (mut-own u64 (α₁ ∷ []) l₆ 0 (named 2) n Fp δ₁) (fsep (mut-own bool (α₂ ∷ []) l₇ 0 (named 3) n Fm δ₂) (fsep (usize .own m₀ (vint w64 m₀ ∷ [])) (fsep (MutSlice (named 2) κe u64 .own es-at se) ftrue))))))))) (Work 𝓤 H A mem run .pre (to-work α₁ α₂ δ₁ δ₂ l₆ l₇))
   goes-work α₁ α₂ δ₁ δ₂ l₆ l₇ =
       qed W ((‵ (flft κf qf) ⊛ ‵ (flft κ q) ⊛ ‵ (flft (α₁ ∷ []) fullShare) ⊛ ‵ (flft (α₂ ∷ []) fullShare) ⊛ ‵ (flft κe qe) ⊛ ‵ ftrue)
-      ∷ ‵ (fsep (ShrSlice (named 0) κf u8 .own file-at sf) (fsep (u64 .own k₀ (vint w64 k₀ ∷ [])) (fsep (MutSlice (named 1) κ T.the-row .own fs-at s₀) (fsep (mut-own u64 (α₁ ∷ []) l₆ 0 (named 2) n Fp δ₁) (fsep (mut-own bool (α₂ ∷ []) l₇ 0 (named 3) n Fm δ₂) (fsep (usize .own m₀ (vint w64 m₀ ∷ [])) (fsep (MutSlice (named 2) κe u64 .own es-at se) ftrue))))))) ∷ []) ∵ says ! asked $ frame ! $ done !
+      ∷ ‵ (fsep (ShrSlice (named 0) κf u8 .own file-at sf) (fsep (u64 .own k₀ (vint w64 k₀ ∷ [])) (fsep (MutSlice (named 1) κ T.the-row .own fs-at s₀) (fsep (mut-own u64 (α₁ ∷ []) l₆ 0 (named 2) n Fp δ₁) (fsep (mut-own bool (α₂ ∷ []) l₇ 0 (named 3) n Fm δ₂) (fsep (usize .own m₀ (vint w64 m₀ ∷ [])) (fsep (MutSlice (named 2) κe u64 .own es-at se) ftrue))))))) ∷ []) ∵ says ! asked $
+      frame ! $ done !
 
   module _ (C : Calls 𝓤 H) (Λ : Loops 𝓤 H) (fm : FmC 𝓤 H (W .laws) C) (known-reach : Triple 𝓤 (C #cache·reach) (Reach 𝓤 H A mem run)) (known-work : Triple 𝓤 (C #cache·replay-by) (Work 𝓤 H A mem run)) where
     walk : ent 𝓤 (onEntry 𝓤 H A top.signature κs qs x at) (WpFn 𝓤 H C Λ code.function (sliceVal (bf, of) (length xs) ∷ vint w64 k₀ ∷ sliceVal (b, o) (length ys) ∷ vint w64 m₀ ∷ sliceVal (be, oe) (length es) ∷ []) Post)
     walk =
         qed W ((‵ (flft κf qf) ⊛ ‵ (flft κ q) ⊛ ‵ (flft κe qe) ⊛ ‵ ftrue) ∷ ‵ (owns (ShrSlice (named 0) κf u8 ∷ u64 ∷ MutSlice (named 1) κ T.the-row ∷ usize ∷ MutSlice (named 2) κe u64 ∷ []) x at) ∷ []) ∵
         enter ! C Λ code.function (sliceVal (bf, of) (length xs) ∷ vint w64 k₀ ∷ sliceVal (b, o) (length ys) ∷ vint w64 m₀ ∷ sliceVal (be, oe) (length es) ∷ []) _ $
-        alloc1 ! (λ l0. alloc1 ! (λ l1. alloc1 ! (λ l2. alloc1 ! (λ l3. alloc1 ! (λ l4. alloc1 ! (λ l5. alloc1 ! (λ l6. alloc1 ! (λ l7. alloc1 ! (λ l8. alloc1 ! (λ l9. alloc1 ! (λ l10. alloc1 ! (λ l11. alloc1 ! (λ l12. alloc1 ! (λ l13. alloc1 ! (λ l14. alloc1 ! (λ l15. alloc1 ! (λ l16. alloc1 ! (λ l17. alloc0 ! $ params1 ! $
-        pass1 ! (init ! 32 refl (tt, (tt, (record { fits = gf .0 }, tt)))) $ pass1 ! (init ! 30 refl (tt, record { fits = gk })) $ pass1 ! (init ! 28 refl (tt, (tt, (record { fits = gn .0 }, tt)))) $ pass1 ! (init ! 26 refl (tt, record { fits = gr })) $ pass1 ! (init ! 24 refl (tt, (tt, (record { fits = ge .0 }, tt)))) $ pass0 ! $
+        alloc1 ! (λ l0. alloc1 ! (λ l1. alloc1 ! (λ l2. alloc1 ! (λ l3. alloc1 ! (λ l4. alloc1 ! (λ l5. alloc1 ! (λ l6. alloc1 ! (λ l7. alloc1 ! (λ l8. alloc1 ! (λ l9. alloc1 ! (λ l10. alloc1 ! (λ l11. alloc1 ! (λ l12. alloc1 ! (λ l13. alloc1 ! (λ l14. alloc1 ! (λ l15. alloc1 ! (λ l16. alloc1 ! (λ l17. alloc0 ! $
+        params1 ! $
+        pass1 ! (init ! 32 refl (tt, (tt, (record { fits = gf .0 }, tt)))) $ pass1 ! (init ! 30 refl (tt, record { fits = gk })) $
+        pass1 ! (init ! 28 refl (tt, (tt, (record { fits = gn .0 }, tt)))) $ pass1 ! (init ! 26 refl (tt, record { fits = gr })) $
+        pass1 ! (init ! 24 refl (tt, (tt, (record { fits = ge .0 }, tt)))) $ pass0 ! $
         -- the arrays: each is made, and is then the row of its elements
         owned ! u64 (Is u64) (uint-makes 𝓤 H A W w64) 0 (vint w64 0 ∷ []) (refl, lit< tt) $
         use1 W (‵ (Array u64 N .own (zeros 0) (arrayVal (zeros (vint w64 0)) ∷ []))) (array-repeat 𝓤 H A W u64 (uint-copy 𝓤 H A W w64) N 0 (vint w64 0)) $
@@ -266,47 +272,76 @@ module _ {M : Type 1} (𝓤 : URA M) (H : Heap 𝓤) (A : Atoms 𝓤) (W : Given
         move ! (22 ∷ 0 ∷ []) $ use2 W (‵ (row bool fullShare (zeros false) l7 0)) (arr-in 𝓤 H A W bool tt N l7 (zeros false) (arrayVal (zeros (vbool false)))) $
         assigns ! (of-opd ! (load ! (from ! (fld ! refl (stop !))) (look-in ! 28 (sub ! 1 refl (whole !))))) (from ! (stop !)) (init ! 18 refl (tt, record { fits = gn .0 })) $
         -- `reach`
-        nothing ! $ owned ! usize (Is usize) (uint-makes 𝓤 H A W w64) (length ys) (vint w64 (length ys) ∷ []) (refl, gn .0) $ fjoin ! $ use1 W (raw (Reach 𝓤 H A mem run .pre to-reach)) goes-reach $
+        nothing ! $ owned ! usize (Is usize) (uint-makes 𝓤 H A W w64) (length ys) (vint w64 (length ys) ∷ []) (refl, gn .0) $ fjoin ! $
+        use1 W (raw (Reach 𝓤 H A mem run .pre to-reach)) goes-reach $
         calls-at ! fm (Reach 𝓤 H A mem run) known-reach to-reach (and-then ! (load ! (from ! (stop !)) (look ! 19 refl)) (no-more !)) (λ v₈.
-        use1 W (later (some (λ (r : ℕ). (‵ ftrue ⊛ ‵ (usize .own r (v₈ ∷ []))) ⊛ some (λ (ws : Lasts reach.ended tt (length ys, tt)). ‵ (lasts reach.ended tt (length ys, tt) ws) ⊛ raw (fact 𝓤 (r ≡ n)))))) (id⊢ 𝓤 _) $ await ! tt $ pick ! (λ r₈. split ! $ move ! (1 ∷ []) $ pick ! (λ ws₈. split ! $ gone ! $ heard ! (r₈ ≡ n) (λ e₈.
+        use1 W (later (some (λ (r : ℕ). (‵ ftrue ⊛ ‵ (usize .own r (v₈ ∷ []))) ⊛ some (λ (ws : Lasts reach.ended tt (length ys, tt)). ‵ (lasts reach.ended tt (length ys, tt) ws) ⊛ raw (fact 𝓤 (r ≡ n)))))) (id⊢ 𝓤 _) $
+        await ! tt $ pick ! (λ r₈. split ! $ move ! (1 ∷ []) $ pick ! (λ ws₈. split ! $ gone ! $ heard ! (r₈ ≡ n) (λ e₈.
         split ! $ move ! (1 ∷ []) $ rewrite ! 0 (λ (z : ℕ). ‵ (usize .own z (v₈ ∷ []))) e₈ refl $ peeks ! usize (Is usize) (shows 𝓤 H A usize) n (v₈ ∷ []) (λ is₈.
         land ! (from ! (stop !)) (init ! 22 refl (subst (λ (z : Val). Holds (hasTy (tyInt w64) z) × WT z) (sym (ap only (is₈ .0))) (tt, record { fits = is₈ .1 }))) $
         rewrite ! 22 (λ (z : Val). ‵ (fat fullShare (tyInt w64) l8 0 z)) (ap only (is₈ .0)) refl $
         -- the references
         assigns ! (addr ! (from ! (fld ! refl (hop ! (look-in ! 30 (sub ! 0 refl (whole !))) (stop !))))) (from ! (stop !)) (init ! 18 refl (tt, tt)) $
         assigns ! (agg ! (and-then ! (load ! (from ! (stop !)) (look ! 18 refl)) (and-then ! (load ! (from ! (fld ! refl (stop !))) (look-in ! 30 (sub ! 1 refl (whole !)))) (no-more !)))) (from ! (stop !)) (init ! 16 refl (tt, (tt, (record { fits = gn .0 }, tt)))) $
-        assigns ! (addr ! (from ! (stop !))) (from ! (stop !)) (init ! 14 refl (tt, tt)) $ assigns ! (agg ! (and-then ! (load ! (from ! (stop !)) (look ! 14 refl)) (and-then ! (load ! (from ! (stop !)) (look ! 22 refl)) (no-more !)))) (from ! (stop !)) (init ! 12 refl (tt, (tt, (record { fits = is₈ .1 }, tt)))) $
-        assigns ! (addr ! (from ! (stop !))) (from ! (stop !)) (init ! 10 refl (tt, tt)) $ assigns ! (agg ! (and-then ! (load ! (from ! (stop !)) (look ! 10 refl)) (and-then ! (load ! (from ! (stop !)) (look ! 22 refl)) (no-more !)))) (from ! (stop !)) (init ! 8 refl (tt, (tt, (record { fits = is₈ .1 }, tt)))) $
+        assigns ! (addr ! (from ! (stop !))) (from ! (stop !)) (init ! 14 refl (tt, tt)) $
+        assigns ! (agg ! (and-then ! (load ! (from ! (stop !)) (look ! 14 refl)) (and-then ! (load ! (from ! (stop !)) (look ! 22 refl)) (no-more !)))) (from ! (stop !)) (init ! 12 refl (tt, (tt, (record { fits = is₈ .1 }, tt)))) $
+        assigns ! (addr ! (from ! (stop !))) (from ! (stop !)) (init ! 10 refl (tt, tt)) $
+        assigns ! (agg ! (and-then ! (load ! (from ! (stop !)) (look ! 10 refl)) (and-then ! (load ! (from ! (stop !)) (look ! 22 refl)) (no-more !)))) (from ! (stop !)) (init ! 8 refl (tt, (tt, (record { fits = is₈ .1 }, tt)))) $
         assigns ! (addr ! (from ! (fld ! refl (hop ! (look-in ! 26 (sub ! 0 refl (whole !))) (stop !))))) (from ! (stop !)) (init ! 6 refl (tt, tt)) $
         assigns ! (agg ! (and-then ! (load ! (from ! (stop !)) (look ! 6 refl)) (and-then ! (load ! (from ! (fld ! refl (stop !))) (look-in ! 26 (sub ! 1 refl (whole !)))) (no-more !)))) (from ! (stop !)) (init ! 4 refl (tt, (tt, (record { fits = ge .0 }, tt)))) $
         -- the rows are lent; the file, the frames and the events go on at their own lifetimes, shares and names
         lft-new ! tt (λ α₁. lft-new ! tt (λ α₂. move ! (5 ∷ []) $ rewrite ! 0 (λ (l : List ℕ). ‵ (row u64 fullShare l l6 0)) (sym (take-append-drop n (zeros 0))) refl $
         use1 W (‵ (row u64 fullShare Fp l6 0) ⊛ ‵ (row u64 fullShare Bp l6 (place 8 0 (length Fp)))) (row-apart 𝓤 H A W u64 fullShare Fp Bp l6 0) $ split ! $
-        use1 W (later (some (λ (γ : GName). ‵ (mut-own u64 (α₁ ∷ []) l6 0 (named 2) n Fp γ) ⊛ ‵ (flent (α₁ ∷ []) (Held u64 (length Fp) l6 0 γ))))) (lend-mut u64 (α₁ ∷ []) l6 0 𝓤 H A W Fp (named 2) n (subst (Room u64) (sym len-Fp) room-u64) len-Fp) $ await ! tt $ pick ! (λ δ₁. split ! $
+        use1 W (later (some (λ (γ : GName). ‵ (mut-own u64 (α₁ ∷ []) l6 0 (named 2) n Fp γ) ⊛ ‵ (flent (α₁ ∷ []) (Held u64 (length Fp) l6 0 γ))))) (lend-mut u64 (α₁ ∷ []) l6 0 𝓤 H A W Fp (named 2) n (subst (Room u64) (sym len-Fp) room-u64) len-Fp) $
+        await ! tt $ pick ! (λ δ₁. split ! $
         move ! (7 ∷ []) $ rewrite ! 0 (λ (l : List Bool). ‵ (row bool fullShare l l7 0)) (sym (take-append-drop n (zeros false))) refl $
         use1 W (‵ (row bool fullShare Fm l7 0) ⊛ ‵ (row bool fullShare Bm l7 (place 1 0 (length Fm)))) (row-apart 𝓤 H A W bool fullShare Fm Bm l7 0) $ split ! $
-        use1 W (later (some (λ (γ : GName). ‵ (mut-own bool (α₂ ∷ []) l7 0 (named 3) n Fm γ) ⊛ ‵ (flent (α₂ ∷ []) (Held bool (length Fm) l7 0 γ))))) (lend-mut bool (α₂ ∷ []) l7 0 𝓤 H A W Fm (named 3) n (subst (Room bool) (sym len-Fm) room-bool) len-Fm) $ await ! tt $ pick ! (λ δ₂. split ! $
-        move ! (45 ∷ []) $ fsplit ! $ use1 W (‵ (ShrSlice (named 0) κf u8 .own file-at sf) ⊛ ‵ (ShrSlice (named 0) κf u8 .own file-at sf)) (shr-slice-copy 𝓤 H A W (named 0) κf u8 .twice file-at sf) $ split ! $ move ! (2 ∷ []) $ fsplit ! $ move ! (1 ∷ []) $ fsplit ! $ move ! (1 ∷ []) $ fsplit ! $ move ! (1 ∷ []) $ fsplit ! $
-        move ! (51 ∷ []) $ split ! $ move ! (1 ∷ []) $ split ! $ move ! (1 ∷ []) $ split ! $ nothing ! $ move ! (1 ∷ 0 ∷ []) $ join ! $ move ! (17 ∷ 0 ∷ []) $ join ! $ move ! (17 ∷ 0 ∷ []) $ join ! $ move ! (2 ∷ 0 ∷ []) $ join ! $ move ! (2 ∷ 0 ∷ []) $ join ! $ nothing ! $ move ! (3 ∷ 0 ∷ []) $ fjoin ! $ owned ! usize (Is usize) (uint-makes 𝓤 H A W w64) m₀ (vint w64 m₀ ∷ []) (refl, gr) $ fjoin ! $ move ! (9 ∷ 0 ∷ []) $ fjoin ! $ move ! (11 ∷ 0 ∷ []) $ fjoin ! $ move ! (5 ∷ 0 ∷ []) $ fjoin ! $ owned ! u64 (Is u64) (uint-makes 𝓤 H A W w64) k₀ (vint w64 k₀ ∷ []) (refl, gk) $ fjoin ! $ move ! (6 ∷ 0 ∷ []) $ fjoin ! $ move ! (1 ∷ 0 ∷ []) $
+        use1 W (later (some (λ (γ : GName). ‵ (mut-own bool (α₂ ∷ []) l7 0 (named 3) n Fm γ) ⊛ ‵ (flent (α₂ ∷ []) (Held bool (length Fm) l7 0 γ))))) (lend-mut bool (α₂ ∷ []) l7 0 𝓤 H A W Fm (named 3) n (subst (Room bool) (sym len-Fm) room-bool) len-Fm) $
+        await ! tt $ pick ! (λ δ₂. split ! $
+        move ! (45 ∷ []) $ fsplit ! $
+        use1 W (‵ (ShrSlice (named 0) κf u8 .own file-at sf) ⊛ ‵ (ShrSlice (named 0) κf u8 .own file-at sf)) (shr-slice-copy 𝓤 H A W (named 0) κf u8 .twice file-at sf) $
+        split ! $ move ! (2 ∷ []) $ fsplit ! $ move ! (1 ∷ []) $ fsplit ! $ move ! (1 ∷ []) $ fsplit ! $ move ! (1 ∷ []) $ fsplit ! $
+        move ! (51 ∷ []) $ split ! $ move ! (1 ∷ []) $ split ! $ move ! (1 ∷ []) $ split ! $ nothing ! $ move ! (1 ∷ 0 ∷ []) $ join ! $ move ! (17 ∷ 0 ∷ []) $ join ! $
+        move ! (17 ∷ 0 ∷ []) $ join ! $ move ! (2 ∷ 0 ∷ []) $ join ! $ move ! (2 ∷ 0 ∷ []) $ join ! $ nothing ! $ move ! (3 ∷ 0 ∷ []) $ fjoin ! $
+        owned ! usize (Is usize) (uint-makes 𝓤 H A W w64) m₀ (vint w64 m₀ ∷ []) (refl, gr) $ fjoin ! $ move ! (9 ∷ 0 ∷ []) $ fjoin ! $ move ! (11 ∷ 0 ∷ []) $ fjoin ! $
+        move ! (5 ∷ 0 ∷ []) $ fjoin ! $ owned ! u64 (Is u64) (uint-makes 𝓤 H A W w64) k₀ (vint w64 k₀ ∷ []) (refl, gk) $ fjoin ! $ move ! (6 ∷ 0 ∷ []) $ fjoin ! $
+        move ! (1 ∷ 0 ∷ []) $
         use2 W (raw (Work 𝓤 H A mem run .pre (to-work α₁ α₂ δ₁ δ₂ l6 l7))) (goes-work α₁ α₂ δ₁ δ₂ l6 l7) $
         calls-at ! fm (Work 𝓤 H A mem run) known-work (to-work α₁ α₂ δ₁ δ₂ l6 l7) (and-then ! (load ! (from ! (stop !)) (look ! 42 refl)) (and-then ! (load ! (from ! (stop !)) (look ! 40 refl)) (and-then ! (load ! (from ! (stop !)) (look ! 24 refl)) (and-then ! (load ! (from ! (stop !)) (look ! 20 refl)) (and-then ! (load ! (from ! (stop !)) (look ! 16 refl)) (and-then ! (load ! (from ! (stop !)) (look ! 36 refl)) (and-then ! (load ! (from ! (stop !)) (look ! 12 refl)) (no-more !)))))))) (λ v.
-        use1 W (later (some (λ (r : Replayed). ((‵ (flft κf qf) ⊛ ‵ (flft κ q) ⊛ ‵ (flft (α₁ ∷ []) fullShare) ⊛ ‵ (flft (α₂ ∷ []) fullShare) ⊛ ‵ (flft κe qe) ⊛ ‵ ftrue) ⊛ ‵ (R.the-row .own r (v ∷ []))) ⊛ raw (ensured 𝓤 H A work.ended (work.clauses 𝓤 H A mem run) (work-lfts α₁ α₂) (work-args δ₁ δ₂ l6 l7) tt r)))) (id⊢ 𝓤 _) $ await ! tt $ pick ! (λ r. split ! $ move ! (1 ∷ []) $
-        use1 W (some (λ (ws : Unit {0} × (Unit {0} × (List Frame × (List ℕ × (List Bool × (Unit {0} × (List ℕ × Unit {0}))))))). ‵ (lasts work.ended (work-lfts α₁ α₂) (work-args δ₁ δ₂ l6 l7) ws) ⊛ raw (fact 𝓤 ((r ≡ answer) × ((ws .1 .1 .0 ≡ Z) × (ws .1 .1 .1 .1 .1 .1 .0 ≡ E′)))))) (id⊢ 𝓤 _) $ pick ! (λ ws. split ! $ move ! (1 ∷ []) $ heard ! ((r ≡ answer) × ((ws .1 .1 .0 ≡ Z) × (ws .1 .1 .1 .1 .1 .1 .0 ≡ E′))) (λ e.
-        fsplit ! $ move ! (1 ∷ []) $ fsplit ! $ move ! (1 ∷ []) $ fsplit ! $ fsplit ! $ move ! (1 ∷ []) $ feqL ! (λ k0. move ! (1 ∷ []) $ fsplit ! $ fsplit ! $ move ! (1 ∷ []) $ feqL ! (λ k1. move ! (1 ∷ []) $ fsplit ! $ fsplit ! $ move ! (1 ∷ []) $ feqL ! (λ k2. move ! (1 ∷ []) $ fsplit ! $ move ! (1 ∷ []) $ fsplit ! $ fsplit ! $ move ! (1 ∷ []) $ feqL ! (λ k3.
-        move ! (8 ∷ []) $ split ! $ split ! $ move ! (1 ∷ []) $ split ! $ move ! (1 ∷ []) $ split ! $ move ! (1 ∷ []) $ split ! $ move ! (1 ∷ []) $ split ! $ move ! (6 ∷ []) $ rewrite ! 0 (λ (z : Replayed). ‵ (R.the-row .own z (v ∷ []))) (e .0) refl $ peeks ! R.the-row (Is R.the-row) (shows 𝓤 H A R.the-row) answer (v ∷ []) (λ is.
+        use1 W (later (some (λ (r : Replayed). ((‵ (flft κf qf) ⊛ ‵ (flft κ q) ⊛ ‵ (flft (α₁ ∷ []) fullShare) ⊛ ‵ (flft (α₂ ∷ []) fullShare) ⊛ ‵ (flft κe qe) ⊛ ‵ ftrue) ⊛ ‵ (R.the-row .own r (v ∷ []))) ⊛ raw (ensured 𝓤 H A work.ended (work.clauses 𝓤 H A mem run) (work-lfts α₁ α₂) (work-args δ₁ δ₂ l6 l7) tt r)))) (id⊢ 𝓤 _) $
+        await ! tt $ pick ! (λ r. split ! $ move ! (1 ∷ []) $
+        use1 W (some (λ (ws : Unit {0} × (Unit {0} × (List Frame × (List ℕ × (List Bool × (Unit {0} × (List ℕ × Unit {0}))))))). ‵ (lasts work.ended (work-lfts α₁ α₂) (work-args δ₁ δ₂ l6 l7) ws) ⊛ raw (fact 𝓤 ((r ≡ answer) × ((ws .1 .1 .0 ≡ Z) × (ws .1 .1 .1 .1 .1 .1 .0 ≡ E′)))))) (id⊢ 𝓤 _) $
+        pick ! (λ ws. split ! $ move ! (1 ∷ []) $ heard ! ((r ≡ answer) × ((ws .1 .1 .0 ≡ Z) × (ws .1 .1 .1 .1 .1 .1 .0 ≡ E′))) (λ e.
+        fsplit ! $ move ! (1 ∷ []) $ fsplit ! $ move ! (1 ∷ []) $ fsplit ! $ fsplit ! $ move ! (1 ∷ []) $ feqL ! (λ k0. move ! (1 ∷ []) $ fsplit ! $ fsplit ! $
+        move ! (1 ∷ []) $ feqL ! (λ k1. move ! (1 ∷ []) $ fsplit ! $ fsplit ! $ move ! (1 ∷ []) $ feqL ! (λ k2. move ! (1 ∷ []) $ fsplit ! $ move ! (1 ∷ []) $ fsplit ! $
+        fsplit ! $ move ! (1 ∷ []) $ feqL ! (λ k3.
+        move ! (8 ∷ []) $ split ! $ split ! $ move ! (1 ∷ []) $ split ! $ move ! (1 ∷ []) $ split ! $ move ! (1 ∷ []) $ split ! $ move ! (1 ∷ []) $ split ! $
+        move ! (6 ∷ []) $ rewrite ! 0 (λ (z : Replayed). ‵ (R.the-row .own z (v ∷ []))) (e .0) refl $
+        peeks ! R.the-row (Is R.the-row) (shows 𝓤 H A R.the-row) answer (v ∷ []) (λ is.
         land ! (from ! (stop !)) (init ! 58 refl (EL.lawful R.the-type R′.the-laws 𝓤 H A W tt .typed answer _ is .0)) $
         -- the arrays come back
-        move ! (4 ∷ []) $ lft-end ! tt $ move ! (0 ∷ 22 ∷ 11 ∷ []) $ use3 W (later (‵ (row u64 fullShare (ws .1 .1 .1 .0) l6 0))) (back-mut u64 (α₁ ∷ []) l6 0 𝓤 H A W (ws .1 .1 .1 .0) (length Fp) δ₁) $ await ! tt $
+        move ! (4 ∷ []) $ lft-end ! tt $ move ! (0 ∷ 22 ∷ 11 ∷ []) $
+        use3 W (later (‵ (row u64 fullShare (ws .1 .1 .1 .0) l6 0))) (back-mut u64 (α₁ ∷ []) l6 0 𝓤 H A W (ws .1 .1 .1 .0) (length Fp) δ₁) $ await ! tt $
         move ! (21 ∷ []) $ rewrite ! 0 (λ (m : ℕ). ‵ (row u64 fullShare Bp l6 (place 8 0 m))) (sym k1) refl $ move ! (1 ∷ 0 ∷ []) $
         use2 W (‵ (row u64 fullShare ((ws .1 .1 .1 .0) ++ Bp) l6 0)) (row-whole 𝓤 H A W u64 fullShare (ws .1 .1 .1 .0) Bp l6 0) $
-        use1 W (some (λ (z : Val). ‵ (fat fullShare (cell 𝓤 H A W u64 tt N l6) l6 0 z))) (arr-out 𝓤 H A W u64 tt N l6 (uint-vals w64) (uint-tells w64) ((ws .1 .1 .1 .0) ++ Bp) (len-all {B = ℕ} 0 (ws .1 .1 .1 .0) k1)) $ pick ! (λ z6.
-        move ! (4 ∷ []) $ lft-end ! tt $ move ! (0 ∷ 19 ∷ 10 ∷ []) $ use3 W (later (‵ (row bool fullShare (ws .1 .1 .1 .1 .0) l7 0))) (back-mut bool (α₂ ∷ []) l7 0 𝓤 H A W (ws .1 .1 .1 .1 .0) (length Fm) δ₂) $ await ! tt $
+        use1 W (some (λ (z : Val). ‵ (fat fullShare (cell 𝓤 H A W u64 tt N l6) l6 0 z))) (arr-out 𝓤 H A W u64 tt N l6 (uint-vals w64) (uint-tells w64) ((ws .1 .1 .1 .0) ++ Bp) (len-all {B = ℕ} 0 (ws .1 .1 .1 .0) k1)) $
+        pick ! (λ z6.
+        move ! (4 ∷ []) $ lft-end ! tt $ move ! (0 ∷ 19 ∷ 10 ∷ []) $
+        use3 W (later (‵ (row bool fullShare (ws .1 .1 .1 .1 .0) l7 0))) (back-mut bool (α₂ ∷ []) l7 0 𝓤 H A W (ws .1 .1 .1 .1 .0) (length Fm) δ₂) $ await ! tt $
         move ! (18 ∷ []) $ rewrite ! 0 (λ (m : ℕ). ‵ (row bool fullShare Bm l7 (place 1 0 m))) (sym k2) refl $ move ! (1 ∷ 0 ∷ []) $
         use2 W (‵ (row bool fullShare ((ws .1 .1 .1 .1 .0) ++ Bm) l7 0)) (row-whole 𝓤 H A W bool fullShare (ws .1 .1 .1 .1 .0) Bm l7 0) $
-        use1 W (some (λ (z : Val). ‵ (fat fullShare (cell 𝓤 H A W bool tt N l7) l7 0 z))) (arr-out 𝓤 H A W bool tt N l7 bool-vals bool-tells ((ws .1 .1 .1 .1 .0) ++ Bm) (len-all false (ws .1 .1 .1 .1 .0) k2)) $ pick ! (λ z7.
-        returns ! (look ! 52 refl) $ forget ! 52 refl $ forget ! 50 refl $ forget ! 48 refl $ forget ! 46 refl $ forget ! 44 refl $ forget ! 42 refl $ forget ! 1 refl $ forget ! 0 refl $ forget ! 38 refl $ forget ! 36 refl $ forget ! 34 refl $ forget ! 32 refl $ forget ! 30 refl $ forget ! 28 refl $ forget ! 26 refl $ forget ! 24 refl $ forget ! 22 refl $ forget ! 20 refl $
-        move ! (52 ∷ 53 ∷ []) $ free1 ! $ move ! (50 ∷ 51 ∷ []) $ free1 ! $ move ! (48 ∷ 49 ∷ []) $ free1 ! $ move ! (46 ∷ 47 ∷ []) $ free1 ! $ move ! (44 ∷ 45 ∷ []) $ free1 ! $ move ! (42 ∷ 43 ∷ []) $ free1 ! $ move ! (1 ∷ 41 ∷ []) $ free1 ! $ move ! (0 ∷ 39 ∷ []) $ free1 ! $ move ! (36 ∷ 37 ∷ []) $ free1 ! $ move ! (34 ∷ 35 ∷ []) $ free1 ! $ move ! (32 ∷ 33 ∷ []) $ free1 ! $ move ! (30 ∷ 31 ∷ []) $ free1 ! $ move ! (28 ∷ 29 ∷ []) $ free1 ! $ move ! (26 ∷ 27 ∷ []) $ free1 ! $ move ! (24 ∷ 25 ∷ []) $ free1 ! $ move ! (22 ∷ 23 ∷ []) $ free1 ! $ move ! (20 ∷ 21 ∷ []) $ free1 ! $ move ! (18 ∷ 19 ∷ []) $ free1 ! $ free0 ! $
-        rewrite ! 8 (λ (l : List Frame). ‵ (finally T.the-row γ₀ l)) (e .1 .0) refl $ rewrite ! 5 (λ (l : List ℕ). ‵ (finally u64 γe l)) (e .1 .1) refl $ keep ! (4 ∷ 3 ∷ 1 ∷ 15 ∷ 8 ∷ 5 ∷ 0 ∷ []) $ by ! (exits v (subst (λ (l : List Frame). length l ≡ length ys) (e .1 .0) k0) (subst (λ (l : List ℕ). length l ≡ length es) (e .1 .1) k3))))))))))))))))))))))))))))))))))))))))))
+        use1 W (some (λ (z : Val). ‵ (fat fullShare (cell 𝓤 H A W bool tt N l7) l7 0 z))) (arr-out 𝓤 H A W bool tt N l7 bool-vals bool-tells ((ws .1 .1 .1 .1 .0) ++ Bm) (len-all false (ws .1 .1 .1 .1 .0) k2)) $
+        pick ! (λ z7.
+        returns ! (look ! 52 refl) $ forget ! 52 refl $ forget ! 50 refl $ forget ! 48 refl $ forget ! 46 refl $ forget ! 44 refl $ forget ! 42 refl $ forget ! 1 refl $
+        forget ! 0 refl $ forget ! 38 refl $ forget ! 36 refl $ forget ! 34 refl $ forget ! 32 refl $ forget ! 30 refl $ forget ! 28 refl $ forget ! 26 refl $
+        forget ! 24 refl $ forget ! 22 refl $ forget ! 20 refl $
+        move ! (52 ∷ 53 ∷ []) $ free1 ! $ move ! (50 ∷ 51 ∷ []) $ free1 ! $ move ! (48 ∷ 49 ∷ []) $ free1 ! $ move ! (46 ∷ 47 ∷ []) $ free1 ! $ move ! (44 ∷ 45 ∷ []) $
+        free1 ! $ move ! (42 ∷ 43 ∷ []) $ free1 ! $ move ! (1 ∷ 41 ∷ []) $ free1 ! $ move ! (0 ∷ 39 ∷ []) $ free1 ! $ move ! (36 ∷ 37 ∷ []) $ free1 ! $
+        move ! (34 ∷ 35 ∷ []) $ free1 ! $ move ! (32 ∷ 33 ∷ []) $ free1 ! $ move ! (30 ∷ 31 ∷ []) $ free1 ! $ move ! (28 ∷ 29 ∷ []) $ free1 ! $ move ! (26 ∷ 27 ∷ []) $
+        free1 ! $ move ! (24 ∷ 25 ∷ []) $ free1 ! $ move ! (22 ∷ 23 ∷ []) $ free1 ! $ move ! (20 ∷ 21 ∷ []) $ free1 ! $ move ! (18 ∷ 19 ∷ []) $ free1 ! $ free0 ! $
+        rewrite ! 8 (λ (l : List Frame). ‵ (finally T.the-row γ₀ l)) (e .1 .0) refl $ rewrite ! 5 (λ (l : List ℕ). ‵ (finally u64 γe l)) (e .1 .1) refl $
+        keep ! (4 ∷ 3 ∷ 1 ∷ 15 ∷ 8 ∷ 5 ∷ 0 ∷ []) $
+        by ! (exits v (subst (λ (l : List Frame). length l ≡ length ys) (e .1 .0) k0) (subst (λ (l : List ℕ). length l ≡ length es) (e .1 .1) k3))))))))))))))))))))))))))))))))))))))))))
 
 module _ {M : Type 1} (𝓤 : URA M) (H : Heap 𝓤) (A : Atoms 𝓤) (W : Given 𝓤 H A) (mem : Memory → SProp 𝓤) (run : Routine → Fun 𝓤) where
   abbrev Knows : Calls 𝓤 H → Type 1

@@ -1,5 +1,4 @@
 -- `filter::flag_at` meets its contract. Assumes nothing.
-use borrow.Author.Needs.{needs}
 use Rattle.filter.proofs.Bits.{flag-byte, flag-even, flag-odd}
 use Rattle.filter.proofs.flag_at.Statement.{statement}
 use Rattle.filter.proofs.flag_at.Tie as tie

@@ -6,8 +6,9 @@ use mathlib.Core.List.{List, [], _∷_, _++_, map-append}
 use lib.Dec.{eqb}
 use Rattle.pages.specs.Pages.{has, Distinct}
 use Rattle.pages.proofs.Choice.{split, same, eqb-self, or-false}
 use Rattle.frames.specs.Frames.{framed, pagesOf, dirty, taken}
 use Rattle.frames.specs.declared.Frame.{Frame}
+use Rattle.frames.proofs.By.{dirty-absent}
 
 pub pages-append : (a r : List Frame) → pagesOf (a ++ r) ≡ pagesOf a ++ pagesOf r
 pages-append a r = map-append (λ (f : Frame). f .page) a r
@@ -36,12 +37,6 @@ module _ (p : ℕ) where
   unfolding has dirty
   dirty-append-left [] r h = absurd (false≢true h)
   dirty-append-left (f ∷ a) r h = split (eqb p (f .page)) (λ e. rw e) (λ e. rw e (dirty-append-left a r (rw e at h)))
-
-  -- A page that is not in a list was not written.
-  pub dirty-absent : (a : List Frame) → has p (pagesOf a) ≡ false → dirty p a ≡ false
-  unfolding has dirty
-  dirty-absent [] h = refl
-  dirty-absent (f ∷ a) h = let z = or-false (eqb p (f .page)) (has p (pagesOf a)) h in rw (z .0) (dirty-absent a (z .1))
 
   -- Without the frame of one page the others keep their marks.
   pub dirty-taken : (q : ℕ) → eqb q p ≡ false → (a : List Frame) → dirty q (taken p a) ≡ dirty q a
