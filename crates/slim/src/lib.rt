@@ -38,7 +38,7 @@ pub struct Reach {
 }
 
 // How many items are in the output after a stretch, and how many pages are owed a write.
-pub struct Tally {
+pub struct Progress {
     pub done: usize,
     pub owing: usize,
 }
@@ -114,7 +114,7 @@ fn noted_from(
 }
 
 // A write of this page is dropped: the page is owed one, and so it is one more than `owing` if it was not owed one before.
-// Often it was: its flag tells that, and no page is read.
+// Often it was: then its flag tells that, and in a short chain no page is read.
 fn owe(
     file: &[u8],
     last: &[u32],
@@ -158,7 +158,7 @@ fn keep(
     done: usize,
     owed: &mut [u8],
     owing: usize,
-) -> Tally
+) -> Progress
     requires { ⌜ CanKeep (now file) from end had done owing (pagesIn (now file) (now last) held) (now last) (flagsOf (now owed)) (now out) ⌝ }
     requires { ⌜ IsFilter (now file) (now last) held base (now heads) (now next) ⌝ }
     ensures { λ r. ⌜ r .done ≡ done + length (keptThere (now (file .entry)) from end had (pagesIn (now (file .entry)) (now (last .entry)) held)) ⌝ }
@@ -195,7 +195,7 @@ fn keep(
             }
         }
     }
-    Tally { done: m, owing: n }
+    Progress { done: m, owing: n }
 }
 
 // Back over the items of an epoch in the output, until all is settled: the last of each page that is owed a write becomes one.
