@@ -26,7 +26,9 @@ fn replay_by(
     events: &mut [u64],
 ) -> Replayed
     requires { ⌜ (length (now pages) ≡ reached (length (now frames))) × (length (now written) ≡ length (now pages)) ⌝ }
-    ensures { λ r. ⌜ (r ≡ replayAnswer (now (file .entry)) k (now (frames .entry)) resident (length (now (events .entry)))) × ((now (frames .exit) ≡ framesAfter (now (file .entry)) k (now (frames .entry)) resident (length (now (events .entry)))) × (now (events .exit) ≡ eventsAfter (now (file .entry)) k (now (frames .entry)) resident (now (events .entry)))) ⌝ }
+    ensures { λ r. ⌜ (r ≡ replayAnswer (now (file .entry)) k (now (frames .entry)) resident (length (now (events .entry))))
+        × ((now (frames .exit) ≡ framesAfter (now (file .entry)) k (now (frames .entry)) resident (length (now (events .entry))))
+        × (now (events .exit) ≡ eventsAfter (now (file .entry)) k (now (frames .entry)) resident (now (events .entry)))) ⌝ }
 {
     frames::load(frames, pages, written);
     let r = replays::replay_columns(file, k, pages, written, resident, events);

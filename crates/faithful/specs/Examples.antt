@@ -221,6 +221,18 @@ started = framed 3 true ∷ framed 7 false ∷ blank ∷ []
 abbrev pub transfers : ℕ → List ℕ → List ℕ
 transfers K f = secondTransfers ((replayOf f K (empty K) 0) .events) ∷ toldTransfers ((summaryOf f K (empty K) 0) .fetches) (eventsAfter f K (empty K) 0 places) ∷ []
 
+-- Page 1 is written at 20, between two reads of its first phase, and read again behind page 2.
+abbrev pub laterPhase : List ℕ
+laterPhase = file (1 at 10 ∷ 1 writes 20 ∷ 1 at 30 ∷ 2 at 40 ∷ 1 at 50 ∷ [])
+
+-- Page 1 is written, and then read twice.
+abbrev pub keptWrite : List ℕ
+keptWrite = file (1 writes 10 ∷ 1 at 20 ∷ 1 at 30 ∷ [])
+
+-- Page 1 goes clean, comes in again by a write, and goes written.
+abbrev pub inAndOut : List ℕ
+inAndOut = file (1 at 10 ∷ 2 at 20 ∷ 1 writes 30 ∷ 2 at 40 ∷ [])
+
 -- What is computed, and what the words of the change request come to.
 abbrev pub written : List Example
 written =
@@ -241,6 +253,15 @@ written =
     -- "From any starting marks": page 3 is only read, and is written at the end as it was at the start.
     ∷ (shown (framesAfter (file W) 3 started 2 48) says 1 ∷ 1 ∷ 3 ∷ 1 ∷ 4 ∷ 1 ∷ [])
     ∷ (shown (framesAfter cutW 3 started 2 48) says 1 ∷ 1 ∷ 3 ∷ 1 ∷ 4 ∷ 1 ∷ [])
+    -- FastSlim drops the write at 20 in one phase; the item at 30, the last of that phase, stays a read, and that at 50, the last of the epoch, becomes a write.
+    ∷ (times (fastslim 2 laterPhase) says 10 ∷ 30 ∷ 40 ∷ 50 ∷ [])
+    ∷ (writesOf (fastslim 2 laterPhase) says 0 ∷ 0 ∷ 0 ∷ 1 ∷ [])
+    -- A write that is kept marks nothing else.
+    ∷ (times (demand 1 keptWrite) says 10 ∷ 30 ∷ [])
+    ∷ (writesOf (demand 1 keptWrite) says 1 ∷ 0 ∷ [])
+    -- "A write item that is itself the fetch counts as written": page 1 goes clean at 20, and written at 40.
+    ∷ (fetches 1 inAndOut says
+    10 ∷ 1 ∷ 18446744073709551615 ∷ 0 ∷ 20 ∷ 2 ∷ 1 ∷ 1 ∷ 30 ∷ 1 ∷ 2 ∷ 1 ∷ 40 ∷ 2 ∷ 1 ∷ 2 ∷ [])
     ∷ []
 
 -- Every one of them holds.

@@ -1,4 +1,5 @@
-// A cache as it is lent: a row of frames, most recent first. Its two columns are plain rows, and all work is done on those: only `load` and `save` touch a frame, and each is proved by a walk.
+// A cache as it is lent: a row of frames, most recent first. Its two columns are plain rows, and all work is done on those: only `load` and `save` touch a frame,
+// and each is proved by a walk.
 ghost use mathlib.Core.Path.{_≡_};
 ghost use Prim.Native.Nat.{_≤_};
 ghost use lib.ListN.{length, take};
@@ -15,7 +16,8 @@ pub struct Frame {
 // The columns of the first frames, as many as the columns have places.
 pub fn load(fs: &[Frame], pages: &mut [u64], written: &mut [bool])
     requires { ⌜ (length (now pages) ≤ length (now fs)) × (length (now written) ≡ length (now pages)) ⌝ }
-    ensures { λ _. ⌜ (now (pages .exit) ≡ pagesOf (take (length (now (pages .entry))) (now (fs .entry)))) × (now (written .exit) ≡ marksOf (take (length (now (pages .entry))) (now (fs .entry)))) ⌝ }
+    ensures { λ _. ⌜ (now (pages .exit) ≡ pagesOf (take (length (now (pages .entry))) (now (fs .entry))))
+        × (now (written .exit) ≡ marksOf (take (length (now (pages .entry))) (now (fs .entry)))) ⌝ }
 {
     let n = pages.len();
     let mut i = 0;

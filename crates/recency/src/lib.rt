@@ -8,7 +8,8 @@ ghost use mathlib.Core.Bool.{_||_};
 ghost use Rattle.pages.specs.Rows.{over};
 ghost use Rattle.frames.specs.Frames.{framed, pagesOf, marksOf, framesOf, dirty, taken};
 ghost use Rattle.recency.specs.Linked.{buckets, bucketOf, Linked, lastFrom, CanLink};
-ghost use Rattle.recency.specs.Held.{stateOf, frames, Holds, CanIndex, CanPack, Packed, CanShorten, Shortened, CanAppend, CanMark, countWith, staleWith, writtenWith, CanUse, CanEvict, Gone, CanCopy, Copied, CanLoad, CanSave};
+ghost use Rattle.recency.specs.Held.{stateOf, frames, Holds, CanIndex, CanPack, Packed, CanShorten, Shortened, CanAppend};
+ghost use Rattle.recency.specs.Held.{CanMark, countWith, staleWith, writtenWith, CanUse, CanEvict, Gone, CanCopy, Copied, CanLoad, CanSave};
 
 // How many places a log has. It is packed when all are used, so there should be far more than pages.
 pub const PLACES: usize = 8192;

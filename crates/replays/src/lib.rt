@@ -115,9 +115,12 @@ fn replay_sound(
     requires { ⌜ length (now kept) ≡ length (now cache) ⌝ }
     requires { ⌜ Rows (now log) (now next) (now stale) (now heads) ⌝ }
     ensures { λ r. ⌜ r ≡ summaryOf (now (file .entry)) k (framesOf (now (cache .entry)) (now (kept .entry))) resident ⌝ }
-    ensures { λ _. ⌜ now (cache .exit) ≡ over (pagesOf (replayOf (now (file .entry)) k (framesOf (now (cache .entry)) (now (kept .entry))) resident .final)) (now (cache .entry)) ⌝ }
-    ensures { λ _. ⌜ now (kept .exit) ≡ over (marksOf (replayOf (now (file .entry)) k (framesOf (now (cache .entry)) (now (kept .entry))) resident .final)) (now (kept .entry)) ⌝ }
-    ensures { λ _. ⌜ now (events .exit) ≡ over (words (replayOf (now (file .entry)) k (framesOf (now (cache .entry)) (now (kept .entry))) resident .events)) (now (events .entry)) ⌝ }
+    ensures { λ _. ⌜ now (cache .exit) ≡ over (pagesOf (replayOf (now (file .entry)) k
+        (framesOf (now (cache .entry)) (now (kept .entry))) resident .final)) (now (cache .entry)) ⌝ }
+    ensures { λ _. ⌜ now (kept .exit) ≡ over (marksOf (replayOf (now (file .entry)) k
+        (framesOf (now (cache .entry)) (now (kept .entry))) resident .final)) (now (kept .entry)) ⌝ }
+    ensures { λ _. ⌜ now (events .exit) ≡ over (words (replayOf (now (file .entry)) k
+        (framesOf (now (cache .entry)) (now (kept .entry))) resident .events)) (now (events .entry)) ⌝ }
 {
     let h = trace::read::header_at(file);
     let f = lru::run(
@@ -159,8 +162,10 @@ fn replay_in(
     requires { ⌜ length (now kept) ≡ length (now cache) ⌝ }
     requires { ⌜ Rows (now log) (now next) (now stale) (now heads) ⌝ }
     ensures { λ r. ⌜ r ≡ replayAnswer (now (file .entry)) k (framesOf (now (cache .entry)) (now (kept .entry))) resident (length (now (events .entry))) ⌝ }
-    ensures { λ _. ⌜ now (cache .exit) ≡ pagesOf (framesAfter (now (file .entry)) k (framesOf (now (cache .entry)) (now (kept .entry))) resident (length (now (events .entry)))) ⌝ }
-    ensures { λ _. ⌜ now (kept .exit) ≡ marksOf (framesAfter (now (file .entry)) k (framesOf (now (cache .entry)) (now (kept .entry))) resident (length (now (events .entry)))) ⌝ }
+    ensures { λ _. ⌜ now (cache .exit) ≡ pagesOf (framesAfter (now (file .entry)) k
+        (framesOf (now (cache .entry)) (now (kept .entry))) resident (length (now (events .entry)))) ⌝ }
+    ensures { λ _. ⌜ now (kept .exit) ≡ marksOf (framesAfter (now (file .entry)) k
+        (framesOf (now (cache .entry)) (now (kept .entry))) resident (length (now (events .entry)))) ⌝ }
     ensures { λ _. ⌜ now (events .exit) ≡ eventsAfter (now (file .entry)) k (framesOf (now (cache .entry)) (now (kept .entry))) resident (now (events .entry)) ⌝ }
 {
     match judge(file, k, cache, resident, events.len(), next, heads) {
@@ -192,8 +197,10 @@ pub fn replay_columns(
 ) -> Replayed
     requires { ⌜ length (now kept) ≡ length (now cache) ⌝ }
     ensures { λ r. ⌜ r ≡ replayAnswer (now (file .entry)) k (framesOf (now (cache .entry)) (now (kept .entry))) resident (length (now (events .entry))) ⌝ }
-    ensures { λ _. ⌜ now (cache .exit) ≡ pagesOf (framesAfter (now (file .entry)) k (framesOf (now (cache .entry)) (now (kept .entry))) resident (length (now (events .entry)))) ⌝ }
-    ensures { λ _. ⌜ now (kept .exit) ≡ marksOf (framesAfter (now (file .entry)) k (framesOf (now (cache .entry)) (now (kept .entry))) resident (length (now (events .entry)))) ⌝ }
+    ensures { λ _. ⌜ now (cache .exit) ≡ pagesOf (framesAfter (now (file .entry)) k
+        (framesOf (now (cache .entry)) (now (kept .entry))) resident (length (now (events .entry)))) ⌝ }
+    ensures { λ _. ⌜ now (kept .exit) ≡ marksOf (framesAfter (now (file .entry)) k
+        (framesOf (now (cache .entry)) (now (kept .entry))) resident (length (now (events .entry)))) ⌝ }
     ensures { λ _. ⌜ now (events .exit) ≡ eventsAfter (now (file .entry)) k (framesOf (now (cache .entry)) (now (kept .entry))) resident (now (events .entry)) ⌝ }
 {
     let mut log = [0u64; recency::PLACES];
