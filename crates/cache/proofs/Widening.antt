@@ -95,7 +95,7 @@ over-within {A = A} s l n h g =
 -- A replay leaves no more than K frames, and the row as long as it was.
 final-few : (f : List ℕ) (K : ℕ) (fs : List Frame) (m room : ℕ) → Playable f K (pagesOf fs) m room → length ((replayOf f K fs m) .final) ≤ K
 unfolding replayOf
-final-few f K fs m room a = stays-fine K (a .least) (take m fs) (items f) ((starts-fine K fs m (a .start-is)) .0) .room
+final-few f K fs m room a = stays-fine K (a .least) (take m fs) (items f) (starts-fine K fs m (a .start-is)) .room
 
 pub after-length : (f : List ℕ) (K : ℕ) (fs : List Frame) (m room : ℕ) → length (framesAfter f K fs m room) ≡ length fs
 unfolding framesAfter

@@ -11,8 +11,7 @@ use borrow.Author.Tests.{ltb-false, lt-ltb, le-ltb, eqb-false}
 use Rattle.pages.specs.Pages.{has, place, Distinct}
 use Rattle.pages.proofs.Choice.{split, same, eqb-sym}
 use Rattle.pages.proofs.Added.{has-join}
-use Rattle.pages.proofs.Places.{has-place}
-use Rattle.pages.proofs.Table.{place-most, place-alone}
+use Rattle.pages.proofs.Table.{has-place, place-most, place-alone}
 use Rattle.chains.specs.Chains.{at, newest}
 
 module _ (m : ℕ → ℕ) (v : ℕ) where

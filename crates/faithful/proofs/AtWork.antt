@@ -65,7 +65,6 @@ cache-of-three = record {
   places = omega arith;
   fits = omega arith;
   distinct = (refl, (refl, (refl, tt)));
-  free = refl;
 }
 
 -- ---- what is promised

@@ -15,7 +15,7 @@ use Rattle.trace.specs.Rules.{allowed}
 use Rattle.trace.specs.Verdict.{first}
 use Rattle.trace.specs.Verdict as verdicts
 use Rattle.trace.specs.Check.{isField, isItem, itemsVerdict, verdict}
-use Rattle.trace.specs.Examples.{_at_, _writes_, T, fileT}
+use Rattle.trace.specs.Examples.{_at_, _writes_, top, T, fileT}
 use Rattle.trace.specs.declared.Item.{Item}
 use Rattle.epochs.specs.Epochs.{pages, cut, epochs}
 use Rattle.epochs.specs.Keep.{isFirst, isLast, phase, keeps, settle, marked, reduce}
@@ -144,16 +144,16 @@ examples =
     ∷ (leaves 4 (demand 4 fileT) says 1 ∷ 3 ∷ 4 ∷ 2 ∷ [])
     -- "K = 2 on the B = 2 demand file: the five fetch lines above, per million 625000."
     ∷ (fetches 2 (demand 2 fileT) says
-    10 ∷ 1 ∷ 18446744073709551615 ∷ 0 ∷ 40 ∷ 2 ∷ 18446744073709551615 ∷ 0 ∷ 60 ∷ 3 ∷ 2 ∷ 1 ∷ 80 ∷ 4 ∷ 1 ∷ 1 ∷ 110 ∷ 1 ∷ 4 ∷ 1 ∷ [])
+    10 ∷ 1 ∷ 0 ∷ 0 ∷ 40 ∷ 2 ∷ 0 ∷ 0 ∷ 60 ∷ 3 ∷ 2 ∷ 1 ∷ 80 ∷ 4 ∷ 1 ∷ 1 ∷ 110 ∷ 1 ∷ 4 ∷ 1 ∷ [])
     ∷ (answer 2 (demand 2 fileT) says 0 ∷ 8 ∷ 5 ∷ 3 ∷ 2 ∷ 625000 ∷ [])
     -- Replay of T as a whole file with cache size 2: the lines that the paper prints whole.
     ∷ (fetches 2 fileT says
-    10 ∷ 1 ∷ 18446744073709551615 ∷ 0 ∷ 40 ∷ 2 ∷ 18446744073709551615 ∷ 0 ∷ 60 ∷ 3 ∷ 2 ∷ 1 ∷ 80 ∷ 4 ∷ 1 ∷ 1 ∷ 110 ∷ 1 ∷ 4 ∷ 1 ∷ [])
+    10 ∷ 1 ∷ 0 ∷ 0 ∷ 40 ∷ 2 ∷ 0 ∷ 0 ∷ 60 ∷ 3 ∷ 2 ∷ 1 ∷ 80 ∷ 4 ∷ 1 ∷ 1 ∷ 110 ∷ 1 ∷ 4 ∷ 1 ∷ [])
     ∷ (answer 2 fileT says 0 ∷ 12 ∷ 5 ∷ 3 ∷ 2 ∷ 416666 ∷ [])
     ∷ (leaves 2 fileT says 1 ∷ 3 ∷ [])
     -- "K = 3 on T: fetches at 10, 40, 60, 80; only page 2 evicted, at 80."
     ∷ (fetches 3 fileT says
-    10 ∷ 1 ∷ 18446744073709551615 ∷ 0 ∷ 40 ∷ 2 ∷ 18446744073709551615 ∷ 0 ∷ 60 ∷ 3 ∷ 18446744073709551615 ∷ 0 ∷ 80 ∷ 4 ∷ 2 ∷ 1 ∷ [])
+    10 ∷ 1 ∷ 0 ∷ 0 ∷ 40 ∷ 2 ∷ 0 ∷ 0 ∷ 60 ∷ 3 ∷ 0 ∷ 0 ∷ 80 ∷ 4 ∷ 2 ∷ 1 ∷ [])
     -- "K = 1 on T: 7 fetches, 6 evictions. On the B = 2 demand file: refused 9. (Page 3's fetch at 90 would have moved to 100.)"
     ∷ (take 4 (answer 1 fileT) says 0 ∷ 12 ∷ 7 ∷ 6 ∷ [])
     ∷ (answer 1 (demand 2 fileT) says 9 ∷ 1 ∷ 0 ∷ 0 ∷ [])
@@ -164,7 +164,7 @@ examples =
     ∷ (reduction (reduceAnswer after 2 2 (length after)) says 0 ∷ 2 ∷ 2 ∷ 5 ∷ 5 ∷ [])
     ∷ (joining (joinAnswer (demand 2 before) (demand 2 after) (length rejoined)) says 0 ∷ 2 ∷ 2 ∷ 12 ∷ 10 ∷ [])
     ∷ (fetches 2 rejoined says
-    10 ∷ 1 ∷ 18446744073709551615 ∷ 0 ∷ 40 ∷ 2 ∷ 18446744073709551615 ∷ 0 ∷ 60 ∷ 3 ∷ 2 ∷ 1 ∷ 80 ∷ 4 ∷ 1 ∷ 1 ∷ 110 ∷ 1 ∷ 4 ∷ 1 ∷ [])
+    10 ∷ 1 ∷ 0 ∷ 0 ∷ 40 ∷ 2 ∷ 0 ∷ 0 ∷ 60 ∷ 3 ∷ 2 ∷ 1 ∷ 80 ∷ 4 ∷ 1 ∷ 1 ∷ 110 ∷ 1 ∷ 4 ∷ 1 ∷ [])
     ∷ (answer 2 rejoined says 0 ∷ 10 ∷ 5 ∷ 3 ∷ 2 ∷ 500000 ∷ [])
     -- "Page 7 five times, B = 1: first and last kept. One item: kept once."
     ∷ (times (demand 1 sevens) says 1 ∷ 5 ∷ [])
@@ -241,9 +241,9 @@ written =
     ∷ (writesOf cutW says 0 ∷ 1 ∷ 0 ∷ 0 ∷ 1 ∷ 0 ∷ 0 ∷ 0 ∷ 1 ∷ [])
     -- Page 1 is written in the first file and evicted in the second: of the recording and of the join, the fetch at 50 has the 2. So has that at 90, which evicts page 4.
     ∷ (fetches 2 (file W) says
-    10 ∷ 1 ∷ 18446744073709551615 ∷ 0 ∷ 40 ∷ 2 ∷ 18446744073709551615 ∷ 0 ∷ 50 ∷ 3 ∷ 1 ∷ 2 ∷ 60 ∷ 4 ∷ 2 ∷ 1 ∷ 90 ∷ 1 ∷ 4 ∷ 2 ∷ [])
+    10 ∷ 1 ∷ 0 ∷ 0 ∷ 40 ∷ 2 ∷ 0 ∷ 0 ∷ 50 ∷ 3 ∷ 1 ∷ 2 ∷ 60 ∷ 4 ∷ 2 ∷ 1 ∷ 90 ∷ 1 ∷ 4 ∷ 2 ∷ [])
     ∷ (fetches 2 cutW says
-    10 ∷ 1 ∷ 18446744073709551615 ∷ 0 ∷ 40 ∷ 2 ∷ 18446744073709551615 ∷ 0 ∷ 50 ∷ 3 ∷ 1 ∷ 2 ∷ 60 ∷ 4 ∷ 2 ∷ 1 ∷ 90 ∷ 1 ∷ 4 ∷ 2 ∷ [])
+    10 ∷ 1 ∷ 0 ∷ 0 ∷ 40 ∷ 2 ∷ 0 ∷ 0 ∷ 50 ∷ 3 ∷ 1 ∷ 2 ∷ 60 ∷ 4 ∷ 2 ∷ 1 ∷ 90 ∷ 1 ∷ 4 ∷ 2 ∷ [])
     -- "The written marks at the end": page 1 was written since its fetch, and page 3 was not.
     ∷ (shown (framesAfter (file W) 2 (empty 2) 0 48) says 1 ∷ 1 ∷ 3 ∷ 0 ∷ [])
     ∷ (shown (framesAfter cutW 2 (empty 2) 0 48) says 1 ∷ 1 ∷ 3 ∷ 0 ∷ [])
@@ -261,7 +261,7 @@ written =
     ∷ (writesOf (demand 1 keptWrite) says 1 ∷ 0 ∷ [])
     -- "A write item that is itself the fetch counts as written": page 1 goes clean at 20, and written at 40.
     ∷ (fetches 1 inAndOut says
-    10 ∷ 1 ∷ 18446744073709551615 ∷ 0 ∷ 20 ∷ 2 ∷ 1 ∷ 1 ∷ 30 ∷ 1 ∷ 2 ∷ 1 ∷ 40 ∷ 2 ∷ 1 ∷ 2 ∷ [])
+    10 ∷ 1 ∷ 0 ∷ 0 ∷ 20 ∷ 2 ∷ 1 ∷ 1 ∷ 30 ∷ 1 ∷ 2 ∷ 1 ∷ 40 ∷ 2 ∷ 1 ∷ 2 ∷ [])
     ∷ []
 
 -- Every one of them holds.
@@ -271,3 +271,41 @@ unfolding reducedFile reducedHeader keptOf modeOf reduce epochs cut marked settl
     secondTransfers toldTransfers has add dirty taken flat over
     encode encodeHeader encodeItems encodeItem tagOf field bytes verdict first verdicts._then_ itemsVerdict isItem isField allowed header items itemsOf itemAt item numberAt number
 written-hold = refl
+
+-- ---- page 2^64−1
+
+-- A recording of a pool that numbers its pages from the top: pages 0 and 2^64−1, a write of that at 30, and pages that make both go.
+abbrev pub U : List Item
+U = 0 at 10 ∷ top at 20 ∷ top writes 30 ∷ top at 40 ∷ 1 at 50 ∷ 2 at 60 ∷ 0 at 70 ∷ []
+
+-- It is cut after time 40, reduced by demand and by FastSlim, with B = 2, and joined.
+abbrev pub cutU : List ℕ
+cutU = joinedFile (demand 2 (file (take 4 U))) (fastslim 2 (file (drop 4 U)))
+
+-- A cache of three pages that starts with page 2^64−1, which was written, and page 5, which was not.
+abbrev pub fromTop : List Frame
+fromTop = framed top true ∷ framed 5 false ∷ blank ∷ []
+
+-- What is computed, and what the words of the change request come to.
+abbrev pub numbered : List Example
+numbered =
+    -- "Every 64-bit page is valid in items": of page 2^64−1 the first and the last item of the epoch are kept, and the last becomes a write.
+    (pagesOf cutU says 0 ∷ top ∷ top ∷ 1 ∷ 2 ∷ 0 ∷ [])
+    ∷ (writesOf cutU says 0 ∷ 0 ∷ 1 ∷ 0 ∷ 0 ∷ 0 ∷ [])
+    -- "The third number of an event is 0 where nothing was evicted": at 10 and 20. At 50 page 0 goes, and the fourth number is 1; at 60 page 2^64−1 goes, written.
+    ∷ (fetches 2 (file U) says 10 ∷ 0 ∷ 0 ∷ 0 ∷ 20 ∷ top ∷ 0 ∷ 0 ∷ 50 ∷ 1 ∷ 0 ∷ 1 ∷ 60 ∷ 2 ∷ top ∷ 2 ∷ 70 ∷ 0 ∷ 1 ∷ 1 ∷ [])
+    ∷ (fetches 2 cutU says 10 ∷ 0 ∷ 0 ∷ 0 ∷ 20 ∷ top ∷ 0 ∷ 0 ∷ 50 ∷ 1 ∷ 0 ∷ 1 ∷ 60 ∷ 2 ∷ top ∷ 2 ∷ 70 ∷ 0 ∷ 1 ∷ 1 ∷ [])
+    -- "And in a starting cache": page 2^64−1 is there at 20, and goes last, at 70.
+    ∷ (take 16 (eventsAfter (file U) 3 fromTop 2 places) says 10 ∷ 0 ∷ 0 ∷ 0 ∷ 50 ∷ 1 ∷ 5 ∷ 1 ∷ 60 ∷ 2 ∷ 0 ∷ 1 ∷ 70 ∷ 0 ∷ top ∷ 2 ∷ [])
+    ∷ (take 16 (eventsAfter cutU 3 fromTop 2 places) says 10 ∷ 0 ∷ 0 ∷ 0 ∷ 50 ∷ 1 ∷ 5 ∷ 1 ∷ 60 ∷ 2 ∷ 0 ∷ 1 ∷ 70 ∷ 0 ∷ top ∷ 2 ∷ [])
+    ∷ (shown (framesAfter (file U) 3 fromTop 2 48) says 0 ∷ 0 ∷ 2 ∷ 0 ∷ 1 ∷ 0 ∷ [])
+    ∷ (shown (framesAfter cutU 3 fromTop 2 48) says 0 ∷ 0 ∷ 2 ∷ 0 ∷ 1 ∷ 0 ∷ [])
+    ∷ []
+
+-- Every one of these holds too.
+pub numbered-hold : map (λ (e : Example). e .found) numbered ≡ map (λ (e : Example). e .paper) numbered
+unfolding reducedFile reducedHeader keptOf modeOf reduce epochs cut marked settle keeps phase isFirst isLast pages joinedFile joinedHeader joinedKind
+    replayVerdict summaryOf replayOf framesAfter eventsAfter badStart twice replay _then_ step hit fetch words word cost tally tallied isFetch isEviction perMillion
+    has add dirty taken flat over
+    encode encodeHeader encodeItems encodeItem tagOf field bytes verdict first verdicts._then_ itemsVerdict isItem isField allowed header items itemsOf itemAt item numberAt number
+numbered-hold = refl

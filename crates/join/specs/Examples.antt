@@ -11,7 +11,7 @@ use Rattle.trace.specs.Rules.{allowed}
 use Rattle.trace.specs.Refusals.{refused, ofSecond}
 use Rattle.trace.specs.Verdict.{first, _then_}
 use Rattle.trace.specs.Check.{isField, isItem, itemsVerdict, verdict}
-use Rattle.trace.specs.Examples.{_at_, whole}
+use Rattle.trace.specs.Examples.{_at_, top, whole}
 use Rattle.trace.specs.declared.Header.{Header}
 use Rattle.trace.specs.declared.Item.{Item}
 use Rattle.trace.specs.declared.Reason.the-variants.{JoinTooLarge}
@@ -53,11 +53,13 @@ headers : (
     joinAnswer earlier later 80
     ∷ joinAnswer later (file 1 8 5 (1 at 20 ∷ 2 at 30 ∷ [])) 80
     ∷ joinAnswer (file 0 0 1 (1 at 10 ∷ [])) (file 0 0 1 (1 at 10 ∷ [])) 80
+    ∷ joinAnswer (file 0 0 2 (0 at 10 ∷ top at 10 ∷ [])) (file 0 0 1 (top at 10 ∷ [])) 80
     ∷ []
     )
     ≡ Written (heading 2 8 14 3)
     ∷ Written (heading 2 8 14 3)
     ∷ Written (heading 0 0 2 2)
+    ∷ Written (heading 0 0 3 3)
     ∷ []
 unfolding joinAnswer judged meetsFalling tooLarge joinedHeader joinedKind
     encode encodeHeader encodeItems encodeItem tagOf field bytes verdict first _then_ itemsVerdict isField isItem allowed header itemAt item numberAt number
@@ -133,14 +135,13 @@ items-before-room = refl
 
 -- ---- a file that is refused by itself
 
--- "A refusal of a second file by itself gives trace 2, one of 4 to 6 its item": a file cut short, a value, a length; then a wrong tag, the reserved page and a
--- falling time at item 1. There is no room for a join, and the last three begin before the first file ends, but these refusals come first.
+-- "A refusal of a second file by itself gives trace 2, one of 4 to 6 its item": a file cut short, a value, a length; then a wrong tag and a falling time
+-- at item 1. There is no room for a join, and the last two begin before the first file ends, but these refusals come first.
 second : map (λ (g : List ℕ). joinAnswer earlier g 0) (
     take 22 later
     ∷ set later 3 3
     ∷ (later ++ (0 ∷ []))
     ∷ set (file 0 0 2 (3 at 5 ∷ 4 at 6 ∷ [])) 42 7
-    ∷ file 0 0 2 (3 at 5 ∷ 18446744073709551615 at 6 ∷ [])
     ∷ file 0 0 2 (3 at 5 ∷ 4 at 4 ∷ [])
     ∷ []
     )
@@ -148,7 +149,6 @@ second : map (λ (g : List ℕ). joinAnswer earlier g 0) (
     ∷ Refused (ofSecond (refused 2 0))
     ∷ Refused (ofSecond (refused 3 0))
     ∷ Refused (record { number = 4; trace = 2; item = 1 })
-    ∷ Refused (record { number = 5; trace = 2; item = 1 })
     ∷ Refused (record { number = 6; trace = 2; item = 1 })
     ∷ []
 unfolding joinAnswer judged
@@ -159,13 +159,11 @@ second = refl
 first-file : map (λ (f : List ℕ). joinAnswer f (take 22 later) 0) (
     set later 3 3
     ∷ set (file 0 0 2 (3 at 5 ∷ 4 at 6 ∷ [])) 42 7
-    ∷ file 0 0 2 (3 at 5 ∷ 18446744073709551615 at 6 ∷ [])
     ∷ file 0 0 2 (3 at 5 ∷ 4 at 4 ∷ [])
     ∷ []
     )
     ≡ Refused (record { number = 2; trace = 1; item = 0 })
     ∷ Refused (record { number = 4; trace = 1; item = 1 })
-    ∷ Refused (record { number = 5; trace = 1; item = 1 })
     ∷ Refused (record { number = 6; trace = 1; item = 1 })
     ∷ []
 unfolding joinAnswer judged

@@ -11,7 +11,7 @@ use Rattle.trace.specs.Layout.{tagOf, field, encodeHeader, encodeItem, encodeIt
 use Rattle.trace.specs.Rules.{allowed}
 use Rattle.trace.specs.Verdict.{first, _then_}
 use Rattle.trace.specs.Check.{isField, isItem, itemsVerdict, verdict}
-use Rattle.trace.specs.Examples.{_at_, _writes_, whole, fileT}
+use Rattle.trace.specs.Examples.{_at_, _writes_, top, whole, fileT}
 use Rattle.epochs.specs.Epochs.{pages, cut, epochs}
 use Rattle.epochs.specs.Keep.{isFirst, isLast, phase, keeps, settle, marked, reduce}
 use Rattle.slim.specs.Reduce.{isMode, modeOf, keptOf, reducedHeader, reducedFile, falls, reduceVerdict}
@@ -78,6 +78,21 @@ unfolding replayProgram replayText replayVerdict replayOf summaryOf report fetch
     isEviction perMillion badStart twice has dirty taken verdict first _then_ itemsVerdict isField isItem allowed header items itemsOf item numberAt number digits leading encode
     encodeHeader encodeItems encodeItem tagOf field bytes
 replay-with-write = refl
+
+-- `1 0 - 0`, `2 18446744073709551615 0 1`, `3 5 18446744073709551615 1`: nothing is evicted, then page 0, then page 2^64−1.
+replay-from-the-top : replayProgram (played 1 (encode (whole 3) (0 at 1 ∷ top at 2 ∷ 5 at 3 ∷ [])))
+    ≡ (
+    49 ∷ 32 ∷ 48 ∷ 32 ∷ 45 ∷ 32 ∷ 48 ∷ 10
+    ∷ 50 ∷ 32 ∷ 49 ∷ 56 ∷ 52 ∷ 52 ∷ 54 ∷ 55 ∷ 52 ∷ 52 ∷ 48 ∷ 55 ∷ 51 ∷ 55 ∷ 48 ∷ 57 ∷ 53 ∷ 53 ∷ 49 ∷ 54 ∷ 49 ∷ 53 ∷ 32 ∷ 48 ∷ 32 ∷ 49 ∷ 10
+    ∷ 51 ∷ 32 ∷ 53 ∷ 32 ∷ 49 ∷ 56 ∷ 52 ∷ 52 ∷ 54 ∷ 55 ∷ 52 ∷ 52 ∷ 48 ∷ 55 ∷ 51 ∷ 55 ∷ 48 ∷ 57 ∷ 53 ∷ 53 ∷ 49 ∷ 54 ∷ 49 ∷ 53 ∷ 32 ∷ 49 ∷ 10
+    ∷ 105 ∷ 116 ∷ 101 ∷ 109 ∷ 115 ∷ 32 ∷ 51 ∷ 32 ∷ 102 ∷ 101 ∷ 116 ∷ 99 ∷ 104 ∷ 101 ∷ 115 ∷ 32 ∷ 51 ∷ 32 ∷ 101 ∷ 118 ∷ 105 ∷ 99
+    ∷ 116 ∷ 105 ∷ 111 ∷ 110 ∷ 115 ∷ 32 ∷ 50 ∷ 32 ∷ 112 ∷ 101 ∷ 114 ∷ 109 ∷ 105 ∷ 108 ∷ 108 ∷ 105 ∷ 111 ∷ 110 ∷ 32 ∷ 49 ∷ 48 ∷ 48
+    ∷ 48 ∷ 48 ∷ 48 ∷ 48 ∷ 10
+    ∷ 112 ∷ 97 ∷ 103 ∷ 101 ∷ 115 ∷ 32 ∷ 53 ∷ 10 ∷ [])
+unfolding replayProgram replayText replayVerdict replayOf summaryOf report fetchLines tallyLine pagesLine pageFields replay step hit fetch cost _and_ tally tallied isFetch
+    isEviction perMillion badStart twice has dirty taken verdict first _then_ itemsVerdict isField isItem allowed header items itemsOf item numberAt number digits leading encode
+    encodeHeader encodeItems encodeItem tagOf field bytes
+replay-from-the-top = refl
 
 -- An empty trace: `items 0 fetches 0 evictions 0 permillion 0` and `pages` alone.
 nothing-replayed : replayProgram (played 2 (encode (record { kind = 0; filter = 0; references = 0; items = 0 }) []))

@@ -1,36 +1,39 @@
 -- Marks decide nothing but marks. Assumes nothing.
 use Prim.Native.Nat.{ℕ}
 use mathlib.Core.Path.{_≡_, refl, sym, ap, _∙_}
+use mathlib.Core.Bool.{false}
 use mathlib.Core.List.{List, [], _∷_, map, map-append, getLast?}
-use mathlib.Core.Option.{Option·getD}
+use mathlib.Core.Option.{Option·map}
 use native.Mathlib.Omega.{arith}
 use lib.ListN.{length}
 use lib.Dec.{ltb}
 use Rattle.pages.specs.Pages.{has}
 use Rattle.pages.proofs.Choice.{split}
-use Rattle.frames.specs.Frames.{pagesOf}
+use Rattle.frames.specs.Frames.{framed, pagesOf}
 use Rattle.frames.specs.declared.Frame.{Frame}
 use Rattle.frames.proofs.Columns.{pages-taken, pages-init}
-use Rattle.trace.specs.Rules.{reserved}
 use Rattle.trace.specs.declared.Item.{Item}
-use Rattle.lru.specs.Lru.{Outcome, hit, fetch, step, _then_, replay, word}
-use Rattle.lru.specs.Promises.{pageEvent, SamePages, unmarked, MarksDecideNothing}
+use Rattle.lru.specs.Lru.{Outcome, hit, fetch, step, _then_, replay}
+use Rattle.lru.specs.Promises.{clean, pageEvent, SamePages, unmarked, MarksDecideNothing}
 use Rattle.lru.proofs.Room.{pages-count}
 
+-- A frame of a page that is clean.
+abbrev of : ℕ → Frame
+of p = framed p false
+
 -- The page evicted is the last of the pages.
-last-word : (s : List Frame) → word (getLast? s) ≡ Option·getD (getLast? (pagesOf s)) reserved
-unfolding word
-last-word [] = refl
-last-word (f ∷ []) = refl
-last-word (f ∷ g ∷ s) = last-word (g ∷ s)
+last-page : (s : List Frame) → Option·map clean (getLast? s) ≡ Option·map of (getLast? (pagesOf s))
+last-page [] = refl
+last-page (f ∷ []) = refl
+last-page (f ∷ g ∷ s) = last-page (g ∷ s)
 
 -- An item, from two lists of the same pages.
 module _ (K : ℕ) (s r : List Frame) (e : pagesOf s ≡ pagesOf r) (i j : Item) (p : i .page ≡ j .page) (t : i .time ≡ j .time) where
   same-count : length s ≡ length r
   same-count = sym (pages-count s) ∙ ap length e ∙ pages-count r
 
-  same-last : word (getLast? s) ≡ word (getLast? r)
-  same-last = last-word s ∙ ap (λ (l : List ℕ). Option·getD (getLast? l) reserved) e ∙ sym (last-word r)
+  same-last : Option·map clean (getLast? s) ≡ Option·map clean (getLast? r)
+  same-last = last-page s ∙ ap (λ (l : List ℕ). Option·map of (getLast? l)) e ∙ sym (last-page r)
 
   step-same : SamePages (step K s i) (step K r j)
   unfolding step hit fetch

@@ -21,7 +21,6 @@ use Rattle.recency.specs.Held.{frames, Holds, CanUse, Gone}
 use Rattle.recency.specs.declared.Queue.{Queue}
 use Rattle.recency.specs.declared.Evicted.{Evicted}
 use Rattle.recency.proofs.Appending.{has-frames, length-frames, gone-held, last-later}
-use Rattle.trace.specs.Rules.{reserved}
 use Rattle.trace.specs.declared.Item.{Item}
 use Rattle.lru.specs.Lru.{step, hit, fetch, fetched, words, word, cost}
 use Rattle.lru.specs.Tally.{isFetch, isEviction}
@@ -61,11 +60,11 @@ came-in p w s h = rw (dirty-absent p s h, taken-absent p s h)
 -- ---- room made
 
 module _ {K : ℕ} {log stale : List ℕ} {q : Queue} (can : CanMake K log stale q) {e : ℕ} where
-  pub made-found : q .low < e → Made K e log stale q (record { queue = q; page = reserved; written = false })
+  pub made-found : q .low < e → Made K e log stale q (record { queue = q; page = 0; written = false })
   made-found h = record { found = λ _. refl; room = λ m r. absurd (omega arith); full = λ m r. absurd (omega arith) }
 
   module _ (m : e ≤ q .low) where
-    pub made-room : q .resident < K → Made K e log stale q (record { queue = q; page = reserved; written = false })
+    pub made-room : q .resident < K → Made K e log stale q (record { queue = q; page = 0; written = false })
     made-room h = record { found = λ f. absurd (omega arith); room = λ m r. (refl, refl); full = λ m r. absurd (omega arith) }
 
     module _ (h : K ≤ q .resident) where

@@ -14,7 +14,6 @@ use Rattle.recency.specs.Linked.{buckets}
 use Rattle.recency.specs.Held.{Logged, Held, Holds, Gone}
 use Rattle.recency.specs.declared.Queue.{Queue}
 use Rattle.recency.specs.declared.Evicted.{Evicted}
-use Rattle.trace.specs.Rules.{reserved}
 use Rattle.trace.specs.Layout.{itemsFrom}
 use Rattle.lru.specs.Lru.{Outcome, words, replay}
 use Rattle.lru.specs.Tally.{nothing, isFetch, isEviction, tally}
@@ -33,7 +32,7 @@ pub record CanMake (K : ℕ) (log stale : List ℕ) (q : Queue) : Type 0 where
 -- Room was made: nothing goes where the page is found, or where fewer than K are resident; otherwise the last one goes.
 pub record Made (K e : ℕ) (log stale : List ℕ) (q : Queue) (r : Evicted) : Type 0 where
   pub found : q .low < e → r .queue ≡ q
-  pub room : e ≤ q .low → q .resident < K → (r .queue ≡ q) × (r .page ≡ reserved)
+  pub room : e ≤ q .low → q .resident < K → (r .queue ≡ q) × (r .page ≡ 0)
   pub full : e ≤ q .low → K ≤ q .resident → Gone log stale q r
 
 -- The fourth number, as the code finds it: whether a page was evicted, and whether it was written.

@@ -113,14 +113,14 @@ fn make_room(log: &[u64], stale: &[u8], q: Queue, k: usize, e: usize) -> Evicted
     if q.low < e {
         return Evicted {
             queue: q,
-            page: Item::RESERVED,
+            page: 0,
             written: false,
         };
     }
     if q.resident < k {
         return Evicted {
             queue: q,
-            page: Item::RESERVED,
+            page: 0,
             written: false,
         };
     }

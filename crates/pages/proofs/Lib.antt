@@ -2,6 +2,5 @@ pub mod Added
 pub mod Choice
 pub mod Once
 pub mod Pages
-pub mod Places
 pub mod Rows
 pub mod Table

@@ -1,12 +1,10 @@
 -- What it is for a contract to allow one result. A function's contract, as the check reads it, is its `Reads.Post`. Assumes nothing.
 use Prim.Native.Nat.{ℕ}
-use mathlib.Core.Path.{_≡_, sym, _∙_}
+use mathlib.Core.Path.{_≡_}
 use mathlib.Core.List.{List}
 use contract.Lifetimes.{Lfts}
 use borrow.Fn.Kinds.{PK, RK, Dens, Out, resT, endedOf}
 use denote.Triple.Clauses.{AtExit}
-use Rattle.pages.proofs.find.Kinds as find
-use Rattle.pages.proofs.find.Reads.{Post as find-post}
 
 module _ {n : ℕ} (ps : List (PK n)) (r : RK n) (Post : Out n ps r) where
   -- Any two results that the contract allows of one call are equal.
@@ -20,7 +18,3 @@ module _ {n : ℕ} (ps : List (PK n)) (r : RK n) (Post : Out n ps r) where
   OneBuffer seen =
       (κs : Lfts n) (args : Dens κs ps) (x y : resT r κs .Denot) (s t : AtExit (endedOf n ps r) κs)
       → Post κs args x s → Post κs args y t → seen κs s ≡ seen κs t
-
--- The contract of `find` allows one result.
-pub find-once : OneResult find.ps find.r find-post
-find-once κs args x y s t p q = p ∙ sym q

@@ -1,6 +1,6 @@
 -- Places in a list of pages: where a page stands, after a page more, and where no page stands twice. Assumes nothing.
 use Prim.Native.Nat.{ℕ, zero, suc, _≤_, _<_}
-use mathlib.Core.Path.{_≡_, sym, ap, _∙_}
+use mathlib.Core.Path.{_≡_, refl, sym, ap, _∙_}
 use mathlib.Core.Bool.{true, false, or-true, true≢false, false≢true}
 use mathlib.Core.List.{List, [], _∷_, _++_}
 use native.Mathlib.Omega.{arith}
@@ -10,7 +10,15 @@ use borrow.Author.Tests.{ltb-true, lt-ltb, le-ltb, eq-eqb, ne-eqb}
 use Rattle.pages.specs.Pages.{has, add, place, Distinct}
 use Rattle.pages.proofs.Choice.{split, same, eqb-self}
 use Rattle.pages.proofs.Added.{add-old, add-new}
-use Rattle.pages.proofs.Places.{has-place}
+
+-- A page is in a list exactly if its place is within it.
+pub has-place : (p : ℕ) (l : List ℕ) → has p l ≡ ltb (place p l) (length l)
+unfolding has place
+has-place p [] = refl
+has-place p (q ∷ l) =
+    split (eqb p q)
+    (λ e. rw e (sym (lt-ltb 0 (suc (length l)) (omega arith))))
+    (λ e. rw e (has-place p l ∙ sym (leb·suc-suc (suc (place p l)) (length l))))
 
 module _ (p : ℕ) where
   module _ (l : List ℕ) where

@@ -106,7 +106,7 @@ module _ (f : List ℕ) (K : ℕ) (cache : List ℕ) (kept : List Bool) (residen
       played-run =
           let a = able in
           let b : badStart K (pagesOf frames) resident ≡ false = rw pages-are (a .start-is) in
-          let d : Distinct (pagesOf (take resident frames)) = (starts-fine K frames resident b) .0 .distinct in
+          let d : Distinct (pagesOf (take resident frames)) = (starts-fine K frames resident b) .distinct in
           rw q (record {
             file-long = omega (arith, long);
             few = allowed-facts (header f) (sound-file f (a .file-is) .keeps) .few;

@@ -15,7 +15,7 @@ use Rattle.trace.specs.Refusals.{refused}
 use Rattle.trace.specs.Verdict.{first}
 use Rattle.trace.specs.Verdict as verdicts
 use Rattle.trace.specs.Check.{isField, isItem, itemsVerdict, verdict}
-use Rattle.trace.specs.Examples.{_at_, fileT}
+use Rattle.trace.specs.Examples.{_at_, top, whole, fileT}
 use Rattle.lru.specs.Lru.{hit, fetch, step, _then_, replay, word, cost, words}
 use Rattle.lru.specs.Tally.{isFetch, isEviction, tallied, tally, perMillion}
 use Rattle.replays.specs.Replay.{twice, badStart, replayVerdict, replayOf, summaryOf, replayAnswer, framesAfter, eventsAfter}
@@ -45,7 +45,7 @@ abbrev file7 : List ℕ
 file7 = encode (record { kind = 0; filter = 0; references = 3; items = 3 }) (record { page = 7; time = 1; written = true } ∷ 8 at 2 ∷ 9 at 3 ∷ [])
 
 writes : eventsAfter file7 2 (framed 5 true ∷ framed 6 false ∷ framed 4 true ∷ []) 1 (replicate 13 0)
-    ≡ 1 ∷ 7 ∷ 18446744073709551615 ∷ 0 ∷ 2 ∷ 8 ∷ 5 ∷ 2 ∷ 3 ∷ 9 ∷ 7 ∷ 2 ∷ 0 ∷ []
+    ≡ 1 ∷ 7 ∷ 0 ∷ 0 ∷ 2 ∷ 8 ∷ 5 ∷ 2 ∷ 3 ∷ 9 ∷ 7 ∷ 2 ∷ 0 ∷ []
 unfolding eventsAfter words word cost replayVerdict replayOf over badStart twice replay _then_ step hit fetch has dirty taken
     encode encodeHeader encodeItems encodeItem tagOf field bytes verdict first verdicts._then_ itemsVerdict isField isItem allowed header items itemsOf item numberAt number
 writes = refl
@@ -54,6 +54,25 @@ stays : framesAfter file7 2 (framed 5 true ∷ framed 6 false ∷ framed 4 true 
 unfolding framesAfter replayVerdict replayOf over badStart twice replay _then_ step hit fetch has dirty taken
     encode encodeHeader encodeItems encodeItem tagOf field bytes verdict first verdicts._then_ itemsVerdict isField isItem allowed header items itemsOf item numberAt number
 stays = refl
+
+-- ---- page 2^64−1, and page 0
+
+-- Pages 0, 2^64−1, 9 and 8, from a start with page 2^64−1, which was written.
+abbrev fileTop : List ℕ
+fileTop = encode (whole 4) (0 at 1 ∷ top at 2 ∷ 9 at 3 ∷ 8 at 4 ∷ [])
+
+-- Page 0 is fetched and nothing goes; page 2^64−1 is there; page 0 goes, and then page 2^64−1.
+from-the-top : eventsAfter fileTop 2 (framed top true ∷ framed 0 false ∷ []) 1 (replicate 16 7)
+    ≡ 1 ∷ 0 ∷ 0 ∷ 0 ∷ 3 ∷ 9 ∷ 0 ∷ 1 ∷ 4 ∷ 8 ∷ top ∷ 2 ∷ 7 ∷ 7 ∷ 7 ∷ 7 ∷ []
+unfolding eventsAfter words word cost replayVerdict replayOf over badStart twice replay _then_ step hit fetch has dirty taken
+    encode encodeHeader encodeItems encodeItem tagOf field bytes verdict first verdicts._then_ itemsVerdict isField isItem allowed header items itemsOf item numberAt number
+from-the-top = refl
+
+-- A page twice is one there too.
+top-twice : replayAnswer fileTop 2 (clean (top ∷ top ∷ [])) 2 16 ≡ Refused (refused 10 0) 2
+unfolding replayAnswer replayVerdict badStart twice has
+    encode encodeHeader encodeItems encodeItem tagOf field bytes verdict first verdicts._then_ itemsVerdict isField isItem allowed header item numberAt number
+top-twice = refl
 
 -- ---- replays that are refused, a replay for each reason, and one where the file, the start and the room are wrong
 
@@ -69,7 +88,6 @@ refusals : (
     ∷ replayAnswer fileT 3 (clean (5 ∷ 6 ∷ [])) 2 48
     ∷ replayAnswer fileT 2 (clean (5 ∷ 6 ∷ 7 ∷ [])) 3 48
     ∷ replayAnswer fileT 2 (clean (5 ∷ 5 ∷ [])) 2 48
-    ∷ replayAnswer fileT 2 (clean (5 ∷ 18446744073709551615 ∷ [])) 2 48
     ∷ replayAnswer fileT 2 (clean (5 ∷ 6 ∷ [])) 2 47
     ∷ replayAnswer (take 22 fileT) 2 (clean (5 ∷ 6 ∷ 7 ∷ [])) 3 47
     ∷ []
@@ -80,7 +98,6 @@ refusals : (
     ∷ Refused (refused 10 0) 0
     ∷ Refused (refused 10 0) 2
     ∷ Refused (refused 10 0) 3
-    ∷ Refused (refused 10 0) 2
     ∷ Refused (refused 10 0) 2
     ∷ Refused (refused 11 0) 2
     ∷ Refused (refused 1 0) 3

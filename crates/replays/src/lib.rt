@@ -1,7 +1,6 @@
 // A replay of a trace file through a cache that evicts the least recently used page: what is refused, and what is answered. The cache is two columns, pages and marks.
 use limits::Cache;
 use limits::CacheMade;
-use trace::Item;
 use trace::Reason;
 use trace::Refusal;
 use trace::Verdict;
@@ -60,10 +59,7 @@ fn bad_start(k: usize, cache: &[u64], resident: usize, next: &mut [u16], heads: 
         return true;
     }
     let start = &cache[0..resident];
-    if has_twice(start, next, heads) {
-        return true;
-    }
-    pages::find(start, Item::RESERVED) < start.len()
+    has_twice(start, next, heads)
 }
 
 // Refusals 1 to 6, 7, 9, 10, 11.

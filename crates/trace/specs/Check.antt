@@ -1,4 +1,4 @@
--- The answer of `check`: refusals 1 to 6 in their order, or the four header values. Assumes nothing.
+-- The answer of `check`: refusals 1 to 4 and 6 in their order, or the four header values. Assumes nothing.
 use Prim.Native.Nat.{ℕ, zero, suc, _+_, _*_}
 use mathlib.Core.Bool.{Bool, not, _&&_}
 use mathlib.Core.List.{List, [], _∷_}
@@ -6,11 +6,11 @@ use lib.ListN.{length, drop}
 use lib.Dec.{ltb, eqb}
 use Rattle.trace.specs.Bytes.{numberAt}
 use Rattle.trace.specs.Layout.{tagOf, header, item}
-use Rattle.trace.specs.Rules.{allowed, reserved}
+use Rattle.trace.specs.Rules.{allowed}
 use Rattle.trace.specs.Refusals.{row}
 use Rattle.trace.specs.Verdict.{Test, _⇒_, first, _then_}
 use Rattle.trace.specs.declared.Header.{Header}
-use Rattle.trace.specs.declared.Reason.the-variants.{BadHeader, BadValues, BadLength, BadField, ReservedPage, TimeFalls}
+use Rattle.trace.specs.declared.Reason.the-variants.{BadHeader, BadValues, BadLength, BadField, TimeFalls}
 use Rattle.trace.specs.declared.Verdict.{Verdict}
 use Rattle.trace.specs.declared.Verdict.the-variants.{Sound, Faulty}
 use Rattle.trace.specs.declared.Checked.{Checked}
@@ -37,12 +37,11 @@ headerTests f =
     ∷ not (eqb (length f) (23 + 19 * header f .items)) ⇒ BadLength
     ∷ []
 
--- 4: "an item has a wrong tag or length"; 5: "an item has the reserved page"; 6: "an item's time is below the one before".
+-- 4: "an item has a wrong tag or length"; 6: "an item's time is below the one before". (5 is withdrawn: "every 64-bit page is valid in items".)
 -- The bytes of item i stand at the front of s, and the item before it was at time `before`.
 abbrev pub itemTests : ℕ → ℕ → List ℕ → List Test
 itemTests before i s =
     not (isItem s) ⇒ BadField i
-    ∷ eqb (item s .page) reserved ⇒ ReservedPage i
     ∷ ltb (item s .time) before ⇒ TimeFalls i
     ∷ []
 
