@@ -124,7 +124,8 @@ shkembruq convert [--lackey [--page-bits N]] [--progress] IN -o OUT
 
 Writes a recording as a whole trace file. IN is `-` for standard input. Each
 line of IN is `page time`, two decimal numbers, for a read, or `page time w`
-for a write; blank lines are passed over.
+for a write; blank lines are passed over. Every number of 64 bits is a page;
+times never fall.
 A recording of over 1,000,000 items is cut into files OUT.0, OUT.1, and so on.
 Each file written prints one line:
   OUT: kind 0 filter 0 references R items N

@@ -1,7 +1,6 @@
 //! The two kinds of recording that can be converted, line by line.
 
 use types::Item;
-use types::limits::RESERVED_PAGE;
 
 #[derive(Clone, Copy)]
 pub enum Format {
@@ -50,7 +49,7 @@ impl Reader {
             }),
         };
         let item = item.ok_or_else(|| self.unreadable(text))?;
-        self.keeps_the_rules(item)?;
+        self.keeps_the_order(item)?;
         self.items += 1;
         self.before = item.time;
         Ok(Some(item))
@@ -66,14 +65,11 @@ impl Reader {
     }
 
     /// The library would refuse such an item too, but cannot name the line.
-    fn keeps_the_rules(&self, item: Item) -> Result<(), String> {
-        if item.page == RESERVED_PAGE {
-            return Err(format!("page {RESERVED_PAGE} is reserved"));
+    fn keeps_the_order(&self, item: Item) -> Result<(), String> {
+        match item.time < self.before {
+            true => Err(format!("time falls from {} to {}", self.before, item.time)),
+            false => Ok(()),
         }
-        if item.time < self.before {
-            return Err(format!("time falls from {} to {}", self.before, item.time));
-        }
-        Ok(())
     }
 }
 
@@ -170,10 +166,33 @@ mod tests {
         ] {
             assert!(items(Format::Plain, &[line]).is_err(), "{line}");
         }
-        assert!(items(Format::Plain, &["18446744073709551615 1"]).is_err());
-        assert!(items(Format::Plain, &["18446744073709551615 1 w"]).is_err());
+        assert!(items(Format::Plain, &["18446744073709551616 1"]).is_err());
+        assert!(items(Format::Plain, &["18446744073709551616 1 w"]).is_err());
         assert!(items(Format::Plain, &["1 5", "1 4"]).is_err());
         assert!(items(Format::Plain, &["1 5 w", "1 4 w"]).is_err());
+    }
+
+    /// Every number of 64 bits is a page, read or written.
+    #[test]
+    fn plain_lines_of_the_first_and_the_last_page() {
+        let lines = [
+            "18446744073709551615 1",
+            "18446744073709551615 1 w",
+            "0 2",
+            "0 2 w",
+            "18446744073709551614 18446744073709551615",
+        ];
+        let expected = [
+            Item::read(u64::MAX, 1),
+            Item::write(u64::MAX, 1),
+            Item::read(0, 2),
+            Item::write(0, 2),
+            Item::read(u64::MAX - 1, u64::MAX),
+        ];
+        assert_eq!(items(Format::Plain, &lines), Ok(expected.to_vec()));
+        let falls = ["18446744073709551615 5", "18446744073709551615 4"];
+        let found = items(Format::Plain, &falls);
+        assert_eq!(found, Err("time falls from 5 to 4".to_string()));
     }
 
     #[test]
@@ -199,6 +218,14 @@ mod tests {
         assert_eq!(found, Ok(expected.to_vec()));
         let bytes = items(Format::Lackey { page_bits: 0 }, &lines[1..2]);
         assert_eq!(bytes, Ok(vec![Item::read(0x0400_1090, 0)]));
+    }
+
+    /// Of all 64 bits of an address, where none is left off.
+    #[test]
+    fn lackey_lines_of_the_first_and_the_last_page() {
+        let lines = [" S ffffffffffffffff,1\n", " L 00000000,8\n"];
+        let found = items(Format::Lackey { page_bits: 0 }, &lines);
+        assert_eq!(found, Ok(vec![Item::write(u64::MAX, 0), Item::read(0, 1)]));
     }
 
     #[test]
