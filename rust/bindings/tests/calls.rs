@@ -55,7 +55,7 @@ fn replay_fills_cache_and_events() {
     assert_eq!((summary.fetches, summary.evictions), (5, 3));
     let left = [Frame::clean(1), Frame::clean(3), Frame::written(0)];
     assert_eq!(cache, left);
-    assert_eq!(events[..4], [10, 1, u64::MAX, 0]);
+    assert_eq!(events[..4], [10, 1, 0, 0]);
     assert_eq!(events[8..12], [60, 3, 2, 1]);
     let answer = replay(&file(), 2, &mut cache, 9, &mut events);
     assert_eq!(answer, Err((Refusal::new(10), 9)));
@@ -73,4 +73,23 @@ fn replay_takes_and_leaves_marks() {
     assert_eq!(events[..4], [3, 8, 7, 2]);
     let left = [Frame::clean(8), Frame::written(6), Frame::written(5)];
     assert_eq!(cache, left);
+}
+
+/// The first page and the last that 64 bits can name arrive in items and in a
+/// start, and come back in events and frames; what says that nothing was evicted
+/// is the fourth number.
+#[test]
+fn every_number_of_64_bits_is_a_page() {
+    let file = whole(&[Item::write(u64::MAX, 1), Item::read(0, 2), Item::read(8, 3)]);
+    let (mut cache, mut events) = ([Frame::clean(9); 2], [7; 12]);
+    let summary = replay(&file, 2, &mut cache, 0, &mut events).expect("taken");
+    assert_eq!((summary.fetches, summary.evictions), (3, 1));
+    assert_eq!(events[..4], [1, u64::MAX, 0, 0]);
+    assert_eq!(events[4..], [2, 0, 0, 0, 3, 8, u64::MAX, 2]);
+    let mut cache = [Frame::clean(u64::MAX), Frame::written(0)];
+    let last = whole(&[Item::read(8, 3)]);
+    let summary = replay(&last, 2, &mut cache, 2, &mut events).expect("taken");
+    assert_eq!((summary.fetches, summary.evictions), (1, 1));
+    assert_eq!(events[..4], [3, 8, 0, 2]);
+    assert_eq!(cache, [8, u64::MAX].map(Frame::clean));
 }

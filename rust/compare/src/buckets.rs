@@ -3,7 +3,6 @@
 //! bucket as a trace can want.
 
 use crate::Random;
-use types::limits::RESERVED_PAGE;
 
 /// What the lower and the upper half of a page are multiplied with.
 const LOWER: u32 = 1_640_531_527;
@@ -41,9 +40,23 @@ impl Table {
         let first = bucket * self.width();
         (first..first + self.width())
             .map(|sum| halves.page(random, sum as u32))
-            .filter(|page| *page != RESERVED_PAGE)
             .take(count)
             .collect()
+    }
+
+    /// As many of this page's bucket, of which the page is the first.
+    pub fn pages_with(
+        self,
+        random: &mut Random,
+        page: u64,
+        halves: Halves,
+        count: usize,
+    ) -> Vec<u64> {
+        let mut pages = self.pages(random, self.bucket(page), halves, count);
+        pages.retain(|other| *other != page);
+        pages.insert(0, page);
+        pages.truncate(count);
+        pages
     }
 }
 
@@ -156,7 +169,6 @@ mod tests {
                 let mut pages = table.pages(&mut random, of, halves, 3000);
                 let is_in = |page: &u64| table.bucket(*page) == of;
                 assert!(pages.iter().all(is_in), "{halves:?} {table:?}");
-                assert!(!pages.contains(&RESERVED_PAGE));
                 pages.sort_unstable();
                 pages.dedup();
                 assert_eq!(pages.len(), 3000, "{halves:?} {table:?}");
@@ -164,16 +176,34 @@ mod tests {
         }
     }
 
-    /// The reserved page has a bucket too, and is left out of it.
+    /// All pages of a bucket are there, the first of all and the last too.
     #[test]
-    fn the_reserved_page_is_left_out() {
+    fn no_page_is_left_out() {
         let mut random = Random::new(1);
-        let halves = Halves::Lower { upper: u32::MAX };
-        for table in [FILTER, LOG] {
-            let bucket = table.bucket(RESERVED_PAGE);
-            let all = table.pages(&mut random, bucket, halves, usize::MAX);
-            assert!(!all.contains(&RESERVED_PAGE));
-            assert_eq!(all.len() as u64, table.width() - 1);
+        for (page, upper) in [(0, 0), (u64::MAX, u32::MAX)] {
+            for table in [FILTER, LOG] {
+                let (bucket, halves) = (table.bucket(page), Halves::Lower { upper });
+                let all = table.pages(&mut random, bucket, halves, usize::MAX);
+                assert!(all.contains(&page));
+                assert_eq!(all.len() as u64, table.width());
+            }
+        }
+    }
+
+    #[test]
+    fn a_page_and_others_of_its_bucket() {
+        let mut random = Random::new(1);
+        let halves = [Halves::Both, Halves::Lower { upper: u32::MAX }];
+        for (page, halves) in [0, 987, u64::MAX].into_iter().zip(halves.iter().cycle()) {
+            for count in [0, 1, 2, 500] {
+                let mut pages = FILTER.pages_with(&mut random, page, *halves, count);
+                assert_eq!(pages.first(), Some(&page).filter(|_| count > 0));
+                let is_in = |other: &u64| FILTER.bucket(*other) == FILTER.bucket(page);
+                assert!(pages.iter().all(is_in));
+                pages.sort_unstable();
+                pages.dedup();
+                assert!(pages.len() == count);
+            }
         }
     }
 }

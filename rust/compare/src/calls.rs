@@ -5,7 +5,7 @@ use crate::files::{Good, file, filter, good, of_kind};
 use crate::{Case, Random, damage, marks, traces};
 use std::collections::HashSet;
 use types::layout::{HEADER_BYTES, file_bytes};
-use types::limits::{LARGEST_CACHE, LARGEST_FILTER, RESERVED_PAGE};
+use types::limits::{LARGEST_CACHE, LARGEST_FILTER};
 use types::{Frame, NUMBERS_PER_EVENT};
 
 pub fn any(random: &mut Random) -> Case {
@@ -140,10 +140,12 @@ fn cache(random: &mut Random, file: &Good, size: u64) -> (Vec<Frame>, usize) {
     (marks::frames(random, &pages), resident)
 }
 
-/// Distinct pages, of the trace as far as it has that many.
+/// Distinct pages, of the trace as far as it has that many. The last page and
+/// the first come before all others that are strange to it: any page can start.
 fn fill_distinct(random: &mut Random, pool: &[u64], start: &mut [u64]) {
     let known: HashSet<u64> = pool.iter().copied().collect();
-    let mut strangers = (1000..).filter(|page| !known.contains(page));
+    let strangers = [u64::MAX, 0].into_iter().chain(1000..);
+    let mut strangers = strangers.filter(|page| !known.contains(page));
     let mut pages: Vec<u64> = pool.to_vec();
     for place in start.iter_mut() {
         let from_trace = !pages.is_empty() && !random.once_in(4);
@@ -165,14 +167,13 @@ fn spoil(random: &mut Random, cache: &mut [u64], resident: usize, size: usize) -
         0 => size + 1,
         1 => random.pick(&[usize::MAX, 1 << 32, 5000]),
         // Often, so that the frames of such a page have the same mark and two.
-        2..5 if resident > 1 => {
+        2..6 if resident > 1 => {
             let one = random.index(resident);
-            let two = one + 1 + random.index(resident - 1);
-            cache[one] = cache[two % resident];
-            resident
-        }
-        5 if resident > 0 => {
-            cache[random.index(resident)] = RESERVED_PAGE;
+            let two = (one + 1 + random.index(resident - 1)) % resident;
+            // And so that it is often the first page of all or the last.
+            let ends = [0, u64::MAX, cache[two], cache[two]];
+            cache[two] = random.pick(&ends);
+            cache[one] = cache[two];
             resident
         }
         _ => resident,

@@ -4,7 +4,7 @@ use crate::Random;
 use types::layout::{
     FILTER, Field, HEADER_BYTES, ITEM_BYTES, ITEMS, KIND, READ_TAG, REFERENCES, WRITE_TAG,
 };
-use types::limits::{LARGEST_FILTER, MOST_ITEMS, RESERVED_PAGE};
+use types::limits::{LARGEST_FILTER, MOST_ITEMS};
 
 /// Where an item's page and time start in its bytes.
 const PAGE: usize = 3;
@@ -85,7 +85,13 @@ fn item(random: &mut Random, bytes: &mut [u8]) {
         }
         // The two tags that an item has, and their neighbours.
         1 | 2 => bytes[at] = random.pick(&[READ_TAG - 1, READ_TAG, WRITE_TAG, WRITE_TAG + 1]),
-        3 | 4 => bytes[at + PAGE..][..8].copy_from_slice(&RESERVED_PAGE.to_le_bytes()),
+        // No damage: any page will do, the first and the last too.
+        3 => put(bytes, at + PAGE, random.pick(&[0, u64::MAX])),
+        // What is damage stays so at any page.
+        4 => {
+            put(bytes, at + PAGE, u64::MAX);
+            fall(random, bytes, number, at);
+        }
         _ => fall(random, bytes, number, at),
     }
 }
@@ -105,7 +111,11 @@ fn fall(random: &mut Random, bytes: &mut [u8], number: usize, at: usize) {
         1 => before.saturating_sub(1),
         _ => random.below(before.max(1)),
     };
-    bytes[at + TIME..][..8].copy_from_slice(&new.to_le_bytes());
+    put(bytes, at + TIME, new);
+}
+
+fn put(bytes: &mut [u8], at: usize, number: u64) {
+    bytes[at..][..8].copy_from_slice(&number.to_le_bytes());
 }
 
 /// Another value: the next one, one bit off, or any.

@@ -5,7 +5,6 @@ pub use crate::recency_faults::{ALL, HARMLESS, RecencyFault};
 use reference::Reference;
 use std::collections::HashSet;
 use types::event::{NOTHING, event};
-use types::limits::RESERVED_PAGE;
 use types::{Frame, Header, Item, Library, NUMBERS_PER_EVENT, Refusal, Summary};
 
 /// The reference with another replay.
@@ -52,8 +51,8 @@ impl Library for FaultyReplay {
 
 impl FaultyReplay {
     /// The log of a start, if nothing is refused. All refusals are the
-    /// reference's but those of the start's pages, of which that of a page that
-    /// comes twice is found by the log: the reference is asked without a start.
+    /// reference's but those of the start, of which that of a page that comes
+    /// twice is found by the log: the reference is asked without a start.
     fn admit(
         &self,
         file: &[u8],
@@ -68,10 +67,8 @@ impl FaultyReplay {
         if let Some(early) = refusal.filter(|refusal| refusal.number <= 10) {
             return Err(early);
         }
-        let start = cache.get(..resident).filter(|start| {
-            let is_reserved = |frame: &Frame| frame.page == RESERVED_PAGE;
-            start.len() as u64 <= size && !start.iter().any(is_reserved)
-        });
+        let start = cache.get(..resident);
+        let start = start.filter(|start| start.len() as u64 <= size);
         let cached = start.and_then(|start| Cached::start(start, self.0));
         match (cached, refusal) {
             (None, _) => Err(Refusal::new(10)),

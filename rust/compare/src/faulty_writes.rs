@@ -8,7 +8,6 @@ use crate::written_slim::kept;
 use reference::Reference;
 use std::collections::HashSet;
 use types::layout::{HEADER_BYTES, ITEM_BYTES, WRITE_TAG};
-use types::limits::RESERVED_PAGE;
 use types::{Frame, Header, Item, Library, NUMBERS_PER_EVENT, Refusal, Summary};
 
 /// The reference with marks of its own in reductions and replays.
@@ -130,7 +129,7 @@ const STRANGE: u64 = 0xABCD_EF01_2345_6789;
 
 /// Where a fault has left too little room the events that do not fit are lost.
 fn step_over(list: &mut List, items: impl Iterator<Item = Item>, events: &mut [u64]) -> Summary {
-    let (mut count, mut fetches, mut evictions) = (0, 0, 0);
+    let (mut count, mut fetches) = (0, 0);
     let mut places = events.chunks_exact_mut(NUMBERS_PER_EVENT);
     for item in items {
         count += 1;
@@ -138,7 +137,6 @@ fn step_over(list: &mut List, items: impl Iterator<Item = Item>, events: &mut [u
             continue;
         };
         fetches += 1;
-        evictions += u64::from(event[2] != RESERVED_PAGE);
         if let Some(place) = places.next() {
             place.copy_from_slice(&event);
         }
@@ -146,7 +144,7 @@ fn step_over(list: &mut List, items: impl Iterator<Item = Item>, events: &mut [u
     Summary {
         items: count,
         fetches,
-        evictions,
+        evictions: list.evictions,
         resident: list.frames.len() as u64,
         permillion: (fetches * 1_000_000).checked_div(count).unwrap_or(0),
     }

@@ -7,9 +7,11 @@ use crate::buckets::{FILTER, Halves, Table};
 /// Where the pages of a row come from.
 #[derive(Clone, Copy, Debug, PartialEq, Eq)]
 pub enum Pool {
-    /// Side by side. Of as many in a row as the largest filter holds, no three
-    /// share a bucket.
+    /// Side by side from the first page up. Of as many in a row as the largest
+    /// filter holds, no three share a bucket.
     Plain,
+    /// The same from the last page down.
+    FromTheTop,
     OneBucket(Halves),
     /// Two buckets taking turns.
     TwoBuckets(Halves),
@@ -19,29 +21,44 @@ impl Pool {
     /// Mostly of one bucket.
     pub fn random(random: &mut Random) -> Pool {
         let halves = Halves::random(random);
-        match random.below(8) {
+        match random.below(9) {
             0 => Pool::Plain,
-            1 | 2 => Pool::TwoBuckets(halves),
+            1 => Pool::FromTheTop,
+            2 | 3 => Pool::TwoBuckets(halves),
             _ => Pool::OneBucket(halves),
         }
     }
 
     /// So many distinct pages. Those of one bucket are so in this table.
     pub fn pages(self, table: Table, random: &mut Random, count: usize) -> Vec<u64> {
-        let one = random.below(table.buckets);
+        let one = often_an_end(random);
         match self {
             Pool::Plain => (0..count as u64).collect(),
-            Pool::OneBucket(halves) => table.pages(random, one, halves, count),
+            Pool::FromTheTop => (0..count as u64).map(|down| u64::MAX - down).collect(),
+            Pool::OneBucket(halves) => table.pages_with(random, one, halves, count),
             Pool::TwoBuckets(halves) => {
-                let two = (one + 1 + random.below(table.buckets - 1)) % table.buckets;
+                let two = of_another_bucket(table, random, one);
                 let each = count.div_ceil(2);
-                let one = table.pages(random, one, halves, each);
-                let two = table.pages(random, two, halves, each);
+                let one = table.pages_with(random, one, halves, each);
+                let two = table.pages_with(random, two, halves, each);
                 let turns = one.into_iter().zip(two).flat_map(|(one, two)| [one, two]);
                 turns.take(count).collect()
             }
         }
     }
+}
+
+/// Any page, but often the first of all or the last.
+fn often_an_end(random: &mut Random) -> u64 {
+    let any = random.bits();
+    random.pick(&[0, u64::MAX, any, any])
+}
+
+fn of_another_bucket(table: Table, random: &mut Random, page: u64) -> u64 {
+    let mut other = || often_an_end(random);
+    let is_other = |other: &u64| table.bucket(*other) != table.bucket(page);
+    let found = std::iter::repeat_with(&mut other).find(is_other);
+    found.expect("pages do not come to an end")
 }
 
 /// In which order the pages of a pool come.
@@ -100,8 +117,10 @@ impl Order {
 /// place of the epoch before for one of this epoch finds such a page in it.
 pub fn around_the_ends(random: &mut Random, filter: usize, count: usize) -> Vec<u64> {
     let halves = Halves::random(random);
-    let bucket = random.below(FILTER.buckets);
-    let sharing = FILTER.pages(random, bucket, halves, 4);
+    let (any, last) = (random.bits(), u64::MAX);
+    // The first page is one of the others.
+    let one = random.pick(&[any, last]);
+    let sharing = FILTER.pages_with(random, one, halves, 4);
     let mut others = 0;
     let mut row = Vec::with_capacity(count);
     while row.len() < count {
@@ -142,13 +161,35 @@ mod tests {
 
     #[test]
     fn plain_pages_share_a_bucket_in_twos_at_most() {
-        let pages = Pool::Plain.pages(FILTER, &mut Random::new(1), 150_000);
-        for row in pages.windows(LARGEST_FILTER as usize).step_by(100) {
-            let mut sharing = [0; FILTER.buckets as usize];
-            for page in row {
-                sharing[FILTER.bucket(*page) as usize] += 1;
+        for pool in [Pool::Plain, Pool::FromTheTop] {
+            let pages = pool.pages(FILTER, &mut Random::new(1), 150_000);
+            for row in pages.windows(LARGEST_FILTER as usize).step_by(100) {
+                let mut sharing = [0; FILTER.buckets as usize];
+                for page in row {
+                    sharing[FILTER.bucket(*page) as usize] += 1;
+                }
+                assert!(sharing.iter().all(|count| *count <= 2), "{}", row[0]);
             }
-            assert!(sharing.iter().all(|count| *count <= 2), "{}", row[0]);
+        }
+    }
+
+    /// Page 0 and the last come into pools of one bucket and of two; into those
+    /// of two also both.
+    #[test]
+    fn the_first_and_the_last_page_are_often_in_a_pool() {
+        let mut random = Random::new(1);
+        let halves = Halves::Both;
+        for (pool, is_of_two) in [
+            (Pool::OneBucket(halves), false),
+            (Pool::TwoBuckets(halves), true),
+        ] {
+            let pools: Vec<Vec<u64>> = (0..400)
+                .map(|_| pool.pages(FILTER, &mut random, 10))
+                .collect();
+            let has = |page: u64| pools.iter().filter(move |pages| pages.contains(&page));
+            assert!(has(0).count() > 50 && has(u64::MAX).count() > 50);
+            let both = has(0).filter(|pages| pages.contains(&u64::MAX)).count();
+            assert_eq!(both > 20, is_of_two, "{both}");
         }
     }
 

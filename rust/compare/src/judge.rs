@@ -2,17 +2,62 @@
 
 use crate::Case;
 use crate::case::Answer;
+use types::event::NOTHING;
 use types::layout::file_bytes;
 use types::{Library, NUMBERS_PER_EVENT};
 
-/// The refusals of the library that can occur; 14 never does.
-pub const REFUSALS: std::ops::RangeInclusive<usize> = 1..=13;
+/// The refusals of the library that can occur.
+pub const REFUSALS: [usize; 12] = [1, 2, 3, 4, 6, 7, 8, 9, 10, 11, 12, 13];
+
+/// The numbers that none has: 5 is withdrawn, 14 never occurs, and the table
+/// ends there.
+pub const NEVER: [usize; 4] = [5, 14, 15, 16];
 
 #[derive(Default)]
 pub struct Seen {
     pub cases: u64,
     pub taken: u64,
     pub refused: [u64; 17],
+    pub evicted: Evicted,
+}
+
+/// What the fetches of replays evicted, where that is easily mistaken.
+#[derive(Clone, Copy, Debug, Default, PartialEq, Eq)]
+pub struct Evicted {
+    pub nothing: u64,
+    pub page_0: u64,
+    pub last_page: u64,
+}
+
+impl Evicted {
+    /// The fourth number says whether something was, the third which page.
+    fn count(&mut self, events: &[u64]) {
+        for [_, _, page, what] in events.as_chunks::<NUMBERS_PER_EVENT>().0 {
+            match (*what, *page) {
+                (NOTHING, _) => self.nothing += 1,
+                (_, 0) => self.page_0 += 1,
+                (_, u64::MAX) => self.last_page += 1,
+                _ => {}
+            }
+        }
+    }
+}
+
+impl Seen {
+    /// Each refusal that can occur, and no other.
+    pub fn insist_on_all_refusals(&self) {
+        for number in REFUSALS {
+            assert!(self.refused[number] > 0, "refusal {number} not seen");
+        }
+        self.insist_on_the_table();
+    }
+
+    /// No number that none of the refusals has.
+    pub fn insist_on_the_table(&self) {
+        for number in NEVER {
+            assert_eq!(self.refused[number], 0, "refusal {number} seen");
+        }
+    }
 }
 
 pub struct Judge<'a> {
@@ -36,7 +81,7 @@ impl<'a> Judge<'a> {
         let answer = tried.run(self.tried);
         let expected = trusted.run(self.trusted);
         let number = self.seen.cases;
-        self.count(&expected);
+        self.count(&expected, &trusted);
         let fault = if answer != expected {
             format!("answers {answer:?} and not {expected:?}")
         } else if tried.outputs() != trusted.outputs() {
@@ -58,8 +103,12 @@ impl<'a> Judge<'a> {
         }
     }
 
-    fn count(&mut self, answer: &Answer) {
+    fn count(&mut self, answer: &Answer, after: &Case) {
         self.seen.cases += 1;
+        if let Answer::Summary(Ok(summary)) = answer {
+            let fetched = NUMBERS_PER_EVENT * summary.fetches as usize;
+            self.seen.evicted.count(&after.outputs().2[..fetched]);
+        }
         match answer.refusal() {
             None => self.seen.taken += 1,
             Some(refusal) => self.seen.refused[refusal.number as usize] += 1,

@@ -1,6 +1,6 @@
 //! Says what a test has done, also when it passes.
 
-use crate::judge::Seen;
+use crate::judge::{Evicted, Seen};
 use std::io::Write;
 
 /// Writes past the test harness, which keeps what passing tests print.
@@ -15,9 +15,21 @@ pub fn say_seen(test: &str, seed: u64, seen: &Seen) {
         .map(|(number, count)| format!("{number}: {count}"))
         .collect();
     say(&format!(
-        "{test}: seed {seed}, {} cases, taken {}, refused {}",
+        "{test}: seed {seed}, {} cases, taken {}, refused {}{}",
         seen.cases,
         seen.taken,
-        refused.join(", ")
+        refused.join(", "),
+        evicted(&seen.evicted)
     ));
+}
+
+/// Of what was replayed, if anything was.
+fn evicted(of: &Evicted) -> String {
+    match *of == Evicted::default() {
+        true => String::new(),
+        false => format!(
+            "; evicted nothing {}, page 0 {}, the last page {}",
+            of.nothing, of.page_0, of.last_page
+        ),
+    }
 }

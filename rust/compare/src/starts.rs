@@ -32,10 +32,12 @@ fn cache_size(random: &mut Random, largest: u64) -> u64 {
     }
 }
 
-/// Distinct pages, some of the trace and some strange to it.
+/// Distinct pages, some of the trace and some strange to it, the first and the
+/// last of all among these.
 pub fn pages(random: &mut Random, pool: &[u64], size: u64) -> Vec<u64> {
     let mut pages: Vec<u64> = pool.to_vec();
-    pages.extend((0..20).map(|_| random.bits() >> 1));
+    pages.extend([0, u64::MAX]);
+    pages.extend((0..20).map(|_| random.bits()));
     pages.sort_unstable();
     pages.dedup();
     let count = random.index(pages.len().min(size as usize) + 1);

@@ -3,7 +3,6 @@
 use crate::Random;
 use crate::marks::Marks;
 use types::Item;
-use types::limits::RESERVED_PAGE;
 
 /// How the next page is chosen from the pool.
 #[derive(Clone, Copy)]
@@ -16,25 +15,30 @@ enum Shape {
     Bursts,
 }
 
-/// A pool of distinct pages: either side by side or all over the 64 bits, up
-/// to the last page that is allowed.
+/// A pool of distinct pages: either side by side or all over the 64 bits. The
+/// first page and the last that 64 bits can name are often among them, and often
+/// both: after the last the pages go on from the first.
 pub fn pool(random: &mut Random, pages: usize) -> Vec<u64> {
-    let spread = random.once_in(3);
-    let last = RESERVED_PAGE - 1;
-    let base = match random.below(3) {
-        0 => 0,
-        1 => last - pages as u64,
-        _ => random.below(last - pages as u64),
+    let pages = pages as u64;
+    let any = random.bits();
+    let (base, step) = match random.once_in(3) {
+        true => (random.pick(&[0, u64::MAX, any]), SPREAD),
+        false => {
+            let around = u64::MAX - random.below(pages);
+            (
+                random.pick(&[0, u64::MAX - (pages - 1), around, around, any]),
+                1,
+            )
+        }
     };
-    (0..pages as u64)
-        .map(|number| match spread {
-            // The odd factor keeps pages distinct; the top bit off keeps them
-            // clear of the reserved page.
-            true => number.wrapping_mul(0xD6E8_FEB8_6659_FD93) & (u64::MAX >> 1),
-            false => base + number,
-        })
+    (0..pages)
+        .map(|number| base.wrapping_add(number.wrapping_mul(step)))
         .collect()
 }
+
+/// How far apart pages are that are all over the 64 bits. It is odd, so they are
+/// distinct.
+const SPREAD: u64 = 0xD6E8_FEB8_6659_FD93;
 
 /// So many items over the pages of the pool, of which some are writes, or none
 /// or all are.
@@ -131,4 +135,39 @@ pub fn length(random: &mut Random) -> usize {
 pub fn pages(random: &mut Random) -> usize {
     let bound = random.pick(&[1, 2, 4, 8, 8, 30, 30, 200, 1500]);
     1 + random.index(bound)
+}
+
+#[cfg(test)]
+mod tests {
+    use super::*;
+
+    #[test]
+    fn pages_of_a_pool_are_distinct() {
+        let mut random = Random::new(1);
+        for _ in 0..1000 {
+            let pages = pages(&mut random);
+            let mut pool = pool(&mut random, pages);
+            pool.sort_unstable();
+            pool.dedup();
+            assert_eq!(pool.len(), pages);
+        }
+    }
+
+    /// The first page and the last are in many pools, also in small ones, and
+    /// both in many of those that have room for them.
+    #[test]
+    fn the_first_and_the_last_page_are_often_in_a_pool() {
+        let mut random = Random::new(1);
+        for pages in [2, 3, 8, 200] {
+            let pools: Vec<Vec<u64>> = (0..1000).map(|_| pool(&mut random, pages)).collect();
+            let count = |wanted: &[u64]| {
+                let has_all = |pool: &&Vec<u64>| wanted.iter().all(|page| pool.contains(page));
+                pools.iter().filter(has_all).count()
+            };
+            assert!(count(&[0]) > 300, "{pages}: {}", count(&[0]));
+            assert!(count(&[u64::MAX]) > 400, "{pages}: {}", count(&[u64::MAX]));
+            let both = count(&[0, u64::MAX]);
+            assert!(both > 100 && both < 500, "{pages}: {both}");
+        }
+    }
 }

@@ -8,6 +8,8 @@ pub struct List {
     size: usize,
     /// Most recently used first.
     pub frames: Vec<Frame>,
+    /// Counted here, since a fault may tell another number of them.
+    pub evictions: u64,
     fault: Option<WriteFault>,
 }
 
@@ -20,6 +22,7 @@ impl List {
         List {
             size,
             frames,
+            evictions: 0,
             fault,
         }
     }
@@ -34,6 +37,7 @@ impl List {
         }
         let is_full = self.frames.len() == self.size;
         let evicted = if is_full { self.frames.pop() } else { None };
+        self.evictions += u64::from(evicted.is_some());
         let frame = self.fetched(item, evicted);
         self.frames.insert(0, frame);
         Some(self.told(item, evicted))

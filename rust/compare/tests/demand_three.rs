@@ -8,7 +8,7 @@ use compare::report::say;
 use compare::starts::Start;
 use compare::{Random, traces};
 use reference::Reference;
-use types::event::WRITTEN;
+use types::event::{NOTHING, WRITTEN};
 use types::layout::{HEADER_BYTES, ITEM_BYTES, file_bytes, whole};
 use types::limits::LARGEST_FILTER;
 use types::{Frame, Item, Library, NUMBERS_PER_EVENT, Summary};
@@ -28,6 +28,46 @@ impl Replayed {
         let (events, _) = self.events.as_chunks::<NUMBERS_PER_EVENT>();
         events.iter().filter(|event| event[3] == WRITTEN).count() as u64
     }
+
+    /// Whether this page was evicted.
+    fn evicts(&self, page: u64) -> bool {
+        let (events, _) = self.events.as_chunks::<NUMBERS_PER_EVENT>();
+        events
+            .iter()
+            .any(|event| event[2] == page && event[3] != NOTHING)
+    }
+}
+
+/// What the replays have met: without these they would have shown nothing.
+#[derive(Debug, Default)]
+struct Met {
+    replays: u64,
+    evictions: u64,
+    evicted_written: u64,
+    left_written: u64,
+    with_page_0_evicted: u64,
+    with_the_last_page_evicted: u64,
+}
+
+impl Met {
+    fn count(&mut self, replayed: &Replayed) {
+        self.replays += 1;
+        self.evictions += replayed.summary.evictions;
+        self.evicted_written += replayed.written();
+        let left = replayed.cache.iter().filter(|frame| frame.written);
+        self.left_written += left.count() as u64;
+        self.with_page_0_evicted += u64::from(replayed.evicts(0));
+        self.with_the_last_page_evicted += u64::from(replayed.evicts(u64::MAX));
+    }
+
+    fn insist_on_enough(&self) {
+        assert_eq!(self.replays, TRACES * REPLAYS_EACH);
+        assert!(self.evictions > TRACES && self.left_written > TRACES);
+        let evictions = self.evictions / 10..self.evictions;
+        assert!(evictions.contains(&self.evicted_written));
+        let ends = [self.with_page_0_evicted, self.with_the_last_page_evicted];
+        assert!(ends.iter().all(|count| *count > TRACES / 20));
+    }
 }
 
 #[test]
@@ -43,8 +83,7 @@ fn of_the_reference() {
 fn reductions_replay_alike(name: &str, library: &dyn Library) {
     let seed = Random::seed();
     let mut random = Random::new(seed ^ 3);
-    let (mut replays, mut shorter, mut evictions) = (0, 0, 0);
-    let (mut written, mut left_written) = (0, 0);
+    let (mut met, mut shorter) = (Met::default(), 0);
     for number in 0..TRACES {
         let pages = traces::pages(&mut random);
         let pool = traces::pool(&mut random, pages);
@@ -59,21 +98,14 @@ fn reductions_replay_alike(name: &str, library: &dyn Library) {
             let two = replay(library, &joined, &start);
             let place = format!("seed {seed} trace {number} size {}", start.size);
             same(&one, &two, &place);
-            replays += 1;
-            evictions += one.summary.evictions;
-            written += one.written();
-            left_written += one.cache.iter().filter(|frame| frame.written).count() as u64;
+            met.count(&one);
         }
     }
     say(&format!(
-        "demand 3, {name}: seed {seed}, {TRACES} traces, {shorter} made shorter, \
-         {replays} replays, {evictions} evictions, {written} of written pages, \
-         {left_written} written pages left"
+        "demand 3, {name}: seed {seed}, {TRACES} traces, {shorter} made shorter, {met:?}"
     ));
-    // Otherwise the test would have shown nothing.
-    assert_eq!(replays, TRACES * REPLAYS_EACH);
-    assert!(shorter > TRACES / 3 && evictions > TRACES);
-    assert!(written > evictions / 10 && written < evictions && left_written > TRACES);
+    assert!(shorter > TRACES / 3);
+    met.insist_on_enough();
 }
 
 fn same(one: &Replayed, two: &Replayed, place: &str) {

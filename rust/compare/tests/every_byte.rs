@@ -9,14 +9,15 @@ use reference::Reference;
 use types::layout::{encode, whole};
 use types::{Frame, Header, Item};
 
+/// The first page and the last, and one that is a byte away from the last.
 const ITEMS: [Item; 3] = [
-    Item::read(7, 300),
-    Item::write(u64::MAX - 1, 300),
+    Item::read(0, 300),
+    Item::write(u64::MAX, 300),
     Item::read(0x00FF_FFFF_FFFF_FFFF, 70_000),
 ];
 
 /// Goes after ITEMS without a time falling.
-const LATER: Item = Item::write(7, 70_001);
+const LATER: Item = Item::write(0, 70_001);
 
 fn files() -> Vec<Vec<u8>> {
     let reduced = |kind, filter, references| {
@@ -60,7 +61,7 @@ fn in_all_functions(judge: &mut Judge, file: &[u8]) {
     judge.insist(&Case::Replay {
         file,
         size: 2,
-        cache: vec![Frame::written(7), Frame::clean(8), Frame::written(9)],
+        cache: vec![Frame::written(u64::MAX), Frame::clean(0), Frame::written(9)],
         resident: 2,
         events: vec![5; 13],
     });
@@ -69,9 +70,11 @@ fn in_all_functions(judge: &mut Judge, file: &[u8]) {
 fn finish(test: &str, seen: &Seen, least: u64) {
     say_seen(test, Random::seed(), seen);
     assert!(seen.cases >= least);
-    for number in 1..=6 {
+    for number in [1, 2, 3, 4, 6] {
         assert!(seen.refused[number] > 0, "refusal {number} not seen");
     }
+    seen.insist_on_the_table();
+    assert!(seen.evicted.page_0 > 0 && seen.evicted.last_page > 0);
 }
 
 #[test]
@@ -103,6 +106,7 @@ fn each_length() {
     }
     say_seen("each length", Random::seed(), &judge.seen);
     assert!(judge.seen.refused[1] > 0 && judge.seen.refused[3] > 0);
+    judge.seen.insist_on_the_table();
     assert!(judge.seen.taken > 0);
 }
 

@@ -9,6 +9,15 @@ use types::layout::whole;
 use types::limits::MOST_ITEMS;
 use types::{Frame, Item, NUMBERS_PER_EVENT};
 
+/// Half of the pages are counted from the first that 64 bits can name, and half
+/// from the last.
+fn page(number: u64) -> u64 {
+    match number % 2 {
+        0 => number / 2,
+        _ => u64::MAX - number / 2,
+    }
+}
+
 /// Skewed over 3,000 pages: hits near the front, hits far back, and misses.
 /// Three in ten are writes.
 fn items(count: u64) -> Vec<Item> {
@@ -16,21 +25,19 @@ fn items(count: u64) -> Vec<Item> {
     (0..count)
         .map(|time| {
             let bound = 1 + random.below(3000);
-            let page = random.below(bound);
-            let written = Marks::ThreeInTen.next(&mut random);
             Item {
-                page,
+                page: page(random.below(bound)),
                 time,
-                written,
+                written: Marks::ThreeInTen.next(&mut random),
             }
         })
         .collect()
 }
 
-fn frame(page: u64) -> Frame {
+fn frame(number: u64) -> Frame {
     Frame {
-        page,
-        written: page.is_multiple_of(3),
+        page: page(number),
+        written: number.is_multiple_of(3),
     }
 }
 

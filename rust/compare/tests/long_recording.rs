@@ -23,7 +23,8 @@ const FILES: [(usize, u64, u64); 5] = [
 
 /// A neighbourhood of pages that moves on slowly, its first pages far more
 /// often than its last, each a few times in a row; and now and then a page
-/// from anywhere. Three items in ten are writes.
+/// from anywhere. Three items in ten are writes. Pages are counted from the
+/// last that 64 bits can name.
 fn items(random: &mut Random, count: usize) -> Vec<Item> {
     let mut page = 0;
     (0..count as u64)
@@ -37,7 +38,7 @@ fn items(random: &mut Random, count: usize) -> Vec<Item> {
             };
             // Pairs of equal times, one of which a cut takes apart.
             Item {
-                page,
+                page: u64::MAX - page,
                 time: time / 2,
                 written: Marks::ThreeInTen.next(random),
             }
@@ -93,7 +94,7 @@ fn longer_than_a_file() {
     for size in [largest, largest + 60] {
         // Full from the start, of pages near and far.
         let frame = |place: u64| Frame {
-            page: 7 * place,
+            page: u64::MAX - 7 * place,
             written: place.is_multiple_of(2),
         };
         let start = Start {

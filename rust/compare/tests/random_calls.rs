@@ -1,7 +1,6 @@
 //! A long round of random calls, proved library against reference.
 
 use bindings::Proved;
-use compare::judge::REFUSALS;
 use compare::report::say_seen;
 use compare::{Judge, Random, calls};
 use reference::Reference;
@@ -19,8 +18,9 @@ fn both_agree_on_random_calls() {
     say_seen("random calls", seed, &judge.seen);
     assert_eq!(judge.seen.cases, CASES);
     assert!(judge.seen.taken > CASES / 3);
-    for number in REFUSALS {
-        assert!(judge.seen.refused[number] > 0, "refusal {number} not seen");
-    }
-    assert_eq!(judge.seen.refused[14..], [0; 3]);
+    judge.seen.insist_on_all_refusals();
+    // Otherwise what is made of these would not have been shown.
+    let evicted = judge.seen.evicted;
+    assert!(evicted.nothing > CASES / 10);
+    assert!(evicted.page_0 > CASES / 20 && evicted.last_page > CASES / 20);
 }

@@ -42,6 +42,10 @@ struct Met {
     from_pages: u64,
     from_written_pages: u64,
     with_reads_and_writes: u64,
+    with_page_0: u64,
+    with_the_last_page: u64,
+    from_page_0: u64,
+    from_the_last_page: u64,
 }
 
 impl Met {
@@ -64,6 +68,17 @@ impl Met {
         self.from_written_pages += u64::from(start.frames.iter().any(is_written));
         let writes = recording.items.iter().filter(|item| item.written).count() as u64;
         self.with_reads_and_writes += u64::from(0 < writes && writes < references);
+        self.count_ends(recording, start);
+    }
+
+    /// The first page that 64 bits can name and the last.
+    fn count_ends(&mut self, recording: &Recording, start: &Start) {
+        let names = |page: u64| recording.items.iter().any(|item| item.page == page);
+        self.with_page_0 += u64::from(names(0));
+        self.with_the_last_page += u64::from(names(u64::MAX));
+        let starts = |page: u64| start.frames.iter().any(|frame| frame.page == page);
+        self.from_page_0 += u64::from(starts(0));
+        self.from_the_last_page += u64::from(starts(u64::MAX));
     }
 
     fn insist_on_enough(&self) {
@@ -80,6 +95,10 @@ impl Met {
             self.from_pages,
             self.from_written_pages,
             self.with_reads_and_writes,
+            self.with_page_0,
+            self.with_the_last_page,
+            self.from_page_0,
+            self.from_the_last_page,
         ];
         assert!(often.iter().all(|count| *count > RECORDINGS / 5));
     }

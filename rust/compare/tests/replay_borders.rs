@@ -13,23 +13,25 @@ use reference::Reference;
 /// Long enough for three packings, from any start.
 const LONGEST: usize = 3 * PLACES + 10;
 
-/// Rows of hits once the pages are there, of fetches alone, and of both.
-fn rows(random: &mut Random, size: usize) -> [Vec<u64>; 3] {
-    let mut row = |order: Order, pages: usize| {
-        let pool = Pool::Plain.pages(LOG, random, pages);
-        order.row(random, &pool, LONGEST)
+/// Rows of hits once the pages are there, of fetches alone, and of both; each
+/// with the pool that it is of.
+fn rows(random: &mut Random, size: usize) -> [(Pool, Vec<u64>); 3] {
+    let mut row = |pool: Pool, order: Order, pages: usize| {
+        let pages = pool.pages(LOG, random, pages);
+        (pool, order.row(random, &pages, LONGEST))
     };
     [
-        row(Order::Loop, size),
-        row(Order::Loop, size + 1),
-        row(Order::Random, 2 * size),
+        row(Pool::Plain, Order::Loop, size),
+        row(Pool::FromTheTop, Order::Loop, size + 1),
+        row(Pool::FromTheTop, Order::Random, 2 * size),
     ]
 }
 
 /// A start of no page and one of as many as there is room for, some of which
-/// come in the rows and some not.
-fn starts(size: u64) -> [Vec<u64>; 2] {
-    [Vec::new(), (size / 2..size / 2 + size).collect()]
+/// come in the rows of their pool and some not.
+fn starts(random: &mut Random, pool: Pool, size: usize) -> [Vec<u64>; 2] {
+    let pages = pool.pages(LOG, random, size / 2 + size);
+    [Vec::new(), pages[size / 2..].to_vec()]
 }
 
 /// Traces that end up to two items before and after each of three packings.
@@ -40,8 +42,8 @@ fn lengths() {
     let mut random = Random::new(Random::seed() ^ 32);
     let mut judge = Judge::new(&Proved, &Reference);
     for size in SIZES {
-        for row in rows(&mut random, size as usize) {
-            for start in starts(size) {
+        for (pool, row) in rows(&mut random, size as usize) {
+            for start in starts(&mut random, pool, size as usize) {
                 let whole = Plan {
                     size,
                     start,
@@ -104,9 +106,13 @@ fn an_eviction_at_each_place() {
     let mut random = Random::new(Random::seed() ^ 34);
     let mut judge = Judge::new(&Proved, &Reference);
     for (size, every) in EVERY {
-        for back in [0, size as usize / 2, size as usize - 1] {
+        for (pool, back) in [
+            (Pool::Plain, 0),
+            (Pool::FromTheTop, size as usize / 2),
+            (Pool::Plain, size as usize - 1),
+        ] {
             let count = (every + 3) * PLACES;
-            let pool = Pool::Plain.pages(LOG, &mut random, count);
+            let pool = pool.pages(LOG, &mut random, count);
             let row = Order::Spread { every, back }.row(&mut random, &pool, count);
             let plan = Plan {
                 size,

@@ -91,12 +91,12 @@ fn full_files() {
     let mut random = Random::new(Random::seed() ^ 42);
     let mut judge = Judge::new(&Proved, &Reference);
     let mut packings = Vec::new();
-    for (size, pages, order) in [
-        (1, 2, Order::Random),
-        (64, 130, Order::Random),
-        (LARGEST_CACHE, 4_097, Order::Loop),
+    for (size, pool, pages, order) in [
+        (1, Pool::Plain, 2, Order::Random),
+        (64, Pool::FromTheTop, 130, Order::Random),
+        (LARGEST_CACHE, Pool::FromTheTop, 4_097, Order::Loop),
     ] {
-        let pool = Pool::Plain.pages(LOG, &mut random, pages);
+        let pool = pool.pages(LOG, &mut random, pages);
         let row = order.row(&mut random, &pool, MOST_ITEMS as usize);
         let plan = Plan {
             size,

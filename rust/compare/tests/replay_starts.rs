@@ -8,16 +8,17 @@ use compare::report::say_seen;
 use compare::{Case, Judge, Random};
 use reference::Reference;
 use types::Frame;
-use types::limits::{LARGEST_CACHE, RESERVED_PAGE};
+use types::limits::LARGEST_CACHE;
 
 const MOST: usize = LARGEST_CACHE as usize;
 
 /// Short starts and the longest.
 const LENGTHS: [usize; 6] = [2, 3, 4, 64, MOST - 1, MOST];
 
-fn pools() -> [Pool; 3] {
+fn pools() -> [Pool; 4] {
     [
         Pool::Plain,
+        Pool::FromTheTop,
         Pool::OneBucket(Halves::Both),
         Pool::TwoBuckets(Halves::Both),
     ]
@@ -42,12 +43,13 @@ fn after(start: &[u64], strange: [u64; 2]) -> Vec<u64> {
 fn every_length() {
     let mut random = Random::new(Random::seed() ^ 36);
     let mut judge = Judge::new(&Proved, &Reference);
-    let [plain, one, two] = &pools().map(|pool| pages(&mut random, pool));
+    let [plain, top, one, two] = &pools().map(|pool| pages(&mut random, pool));
     for length in 0..=MOST {
         // Long chains take long, so not each start has them.
         let pages = match length % 64 {
             0 | 63 => one,
             32 => two,
+            odd if odd % 2 == 1 => top,
             _ => plain,
         };
         let start = pages[..length].to_vec();
@@ -93,31 +95,69 @@ fn a_page_twice() {
     assert!(judge.seen.cases > 100);
 }
 
+/// A start of so many pages, in which this one is at this place.
+fn start_with(length: usize, place: usize, page: u64) -> Vec<u64> {
+    let mut start: Vec<u64> = (1..=length as u64).collect();
+    start[place] = page;
+    start
+}
+
+/// They are pages like the others: used again, and evicted if they are not.
 #[test]
-fn the_reserved_page() {
+fn the_first_page_and_the_last() {
     let mut random = Random::new(Random::seed() ^ 38);
     let mut judge = Judge::new(&Proved, &Reference);
     for length in [&LENGTHS[..], &[1]].concat() {
         for place in [0, length / 2, length - 1] {
-            let mut start: Vec<u64> = (0..length as u64).collect();
-            start[place] = RESERVED_PAGE;
-            let (size, row) = (length as u64, vec![1, 2]);
-            judge.insist(&Plan { size, start, row }.case(&mut random));
+            for page in [0, u64::MAX] {
+                let start = start_with(length, place, page);
+                let size = length as u64;
+                // The page again, and then as many others as evict it.
+                let others = 10_000..10_000 + size;
+                for row in [vec![page, 9_000, page], others.collect()] {
+                    let start = start.clone();
+                    judge.insist(&Plan { size, start, row }.case(&mut random));
+                }
+            }
         }
     }
-    say_seen("starts, the reserved page", Random::seed(), &judge.seen);
+    say_seen(
+        "starts, the first and the last",
+        Random::seed(),
+        &judge.seen,
+    );
+    assert_eq!(judge.seen.taken, judge.seen.cases);
+    let evicted = judge.seen.evicted;
+    assert!(evicted.page_0 >= 21 && evicted.last_page >= 21);
+}
+
+#[test]
+fn the_first_page_or_the_last_twice() {
+    let mut random = Random::new(Random::seed() ^ 44);
+    let mut judge = Judge::new(&Proved, &Reference);
+    for length in LENGTHS {
+        for (one, two) in pairs(length) {
+            for page in [0, u64::MAX] {
+                let mut start = start_with(length, one, page);
+                start[two] = page;
+                let (size, row) = (length as u64, vec![page, 1]);
+                judge.insist(&Plan { size, start, row }.case(&mut random));
+            }
+        }
+    }
+    say_seen("starts, an end twice", Random::seed(), &judge.seen);
     assert_eq!(judge.seen.refused[10], judge.seen.cases);
 }
 
-/// Beyond the resident places the reserved page is a number like others, and
-/// so is a page that comes there again.
+/// Beyond the resident places a page may come again, and any number of times,
+/// the first of all and the last too.
 #[test]
 fn what_is_not_resident_is_not_looked_at() {
     let mut random = Random::new(Random::seed() ^ 39);
     let mut judge = Judge::new(&Proved, &Reference);
     for length in LENGTHS {
-        for filler in [0, RESERVED_PAGE] {
-            let start: Vec<u64> = (0..length as u64 - 1).collect();
+        for (first, filler) in [(0, 0), (0, u64::MAX), (u64::MAX, u64::MAX)] {
+            let start = start_with(length - 1, 0, first);
             let row = after(&start, [9_000, 9_001]);
             let size = length as u64;
             let mut case = Plan { size, start, row }.case(&mut random);

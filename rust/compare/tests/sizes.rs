@@ -90,14 +90,15 @@ fn cache_sizes_and_residents() {
     assert!(judge.seen.taken > 0);
 }
 
-/// Every starting cache of up to four places over a few pages, the reserved
-/// one among them, with every resident count and room, and marks that change
-/// from one to the next. Room of three numbers for each item is not enough.
+/// Every starting cache of up to four places over a few pages, the first of all
+/// and the last among them, with every resident count and room, and marks that
+/// change from one to the next. Room of three numbers for each item is not
+/// enough.
 #[test]
 fn every_small_start() {
     let mut judge = Judge::new(&Proved, &Reference);
-    let file = whole(&items(&[1, 2, 3, 1]));
-    let pages = [1, 2, 3, u64::MAX];
+    let file = whole(&items(&[1, u64::MAX, 0, 1]));
+    let pages = [1, 0, 3, u64::MAX];
     for number in 0..256 {
         let cache: Vec<Frame> = (0..4)
             .map(|digit| Frame {
@@ -122,4 +123,7 @@ fn every_small_start() {
     say_seen("small starts", Random::seed(), &judge.seen);
     assert_eq!(judge.seen.cases, 256 * 5 * 6 * 5);
     assert!(judge.seen.refused[10] > 0 && judge.seen.refused[11] > 0);
+    judge.seen.insist_on_the_table();
+    let evicted = judge.seen.evicted;
+    assert!(evicted.nothing > 0 && evicted.page_0 > 0 && evicted.last_page > 0);
 }

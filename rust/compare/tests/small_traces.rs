@@ -1,6 +1,7 @@
 //! Every trace of up to seven items over up to four pages, in both modes with
 //! every filter size that matters, and with every cache size that does; and
-//! every trace of up to six over up to three pages with all its writes.
+//! every trace of up to six over up to three pages with all its writes. The
+//! first page of all and the last are among them.
 
 use bindings::Proved;
 use compare::report::say_seen;
@@ -12,6 +13,9 @@ use types::{Frame, Item, NUMBERS_PER_EVENT};
 const LONGEST: u32 = 7;
 const PAGES: u64 = 4;
 
+/// The pages that the digits of a number name.
+const NAMED: [u64; PAGES as usize] = [0, u64::MAX, 1, u64::MAX - 1];
+
 const LONGEST_WRITTEN: u32 = 6;
 const PAGES_WRITTEN: u64 = 3;
 
@@ -19,7 +23,7 @@ const PAGES_WRITTEN: u64 = 3;
 /// writes are the bits of another.
 fn trace(pages: u64, number: u64, writes: u64, length: u32) -> Vec<u8> {
     let item = |place: u32| Item {
-        page: number / pages.pow(place) % pages,
+        page: NAMED[(number / pages.pow(place) % pages) as usize],
         // Pairs of equal times.
         time: u64::from(place / 2),
         written: writes >> place & 1 == 1,
@@ -34,7 +38,8 @@ fn in_all_sizes(judge: &mut Judge, file: &[u8], pages: u64, resident: u64, marks
         page,
         written: marks >> place & 1 == 1,
     };
-    let cache: Vec<Frame> = [3, 1, 0, 2, 9].into_iter().zip(0..).map(frame).collect();
+    let start = [NAMED[3], NAMED[1], NAMED[0], NAMED[2], 9];
+    let cache: Vec<Frame> = start.into_iter().zip(0..).map(frame).collect();
     for size in 1..=pages {
         for mode in [1, 2] {
             judge.insist(&Case::Reduce {
@@ -69,6 +74,8 @@ fn every_small_trace() {
     let traces: u64 = (0..=LONGEST).map(|length| PAGES.pow(length)).sum();
     assert_eq!(judge.seen.cases, traces * PAGES * 3);
     assert_eq!(judge.seen.taken, judge.seen.cases);
+    let evicted = judge.seen.evicted;
+    assert!(evicted.page_0 > traces && evicted.last_page > traces);
 }
 
 #[test]
@@ -90,4 +97,6 @@ fn every_small_trace_with_every_write() {
         .sum();
     assert_eq!(judge.seen.cases, traces * PAGES_WRITTEN * 3);
     assert_eq!(judge.seen.taken, judge.seen.cases);
+    let evicted = judge.seen.evicted;
+    assert!(evicted.page_0 > traces && evicted.last_page > traces);
 }

@@ -59,6 +59,25 @@ fn t_in_one_file_and_in_several() {
     }
 }
 
+/// Page 0 and the last: a dash stands where nothing was evicted, which the
+/// fourth number says.
+#[test]
+fn the_first_page_and_the_last() {
+    let pages = [u64::MAX, 0, u64::MAX, 5];
+    let item = |(page, time): (u64, u64)| Item::write(page, time);
+    let items: Vec<Item> = pages.into_iter().zip(1..).map(item).collect();
+    let output = run("ends", "1", &[whole(&items[..2]), whole(&items[2..])]);
+    let lines = "\
+1 18446744073709551615 - 0
+2 0 18446744073709551615 2
+3 18446744073709551615 0 2
+4 5 18446744073709551615 2
+items 4 fetches 4 evictions 3 permillion 1000000 transfers 7
+pages 5
+";
+    assert_eq!(String::from_utf8_lossy(&output.stdout), lines);
+}
+
 #[test]
 fn an_empty_recording() {
     let output = run("empty", "7", &[whole(&[])]);

@@ -1,10 +1,10 @@
-//! The checker: refusals 1 to 6, in that order.
+//! The checker: refusals 1 to 4 and 6, in that order.
 
 use types::layout::{
     FILTER, HEADER_BYTES, ITEM_BYTES, ITEM_LENGTH, ITEMS, KIND, READ_TAG, REFERENCES, WRITE_TAG,
     file_bytes,
 };
-use types::limits::{LARGEST_FILTER, MOST_ITEMS, RESERVED_PAGE};
+use types::limits::{LARGEST_FILTER, MOST_ITEMS};
 use types::{Header, Item, Refusal};
 
 /// Checks a trace file and answers its header values.
@@ -59,15 +59,13 @@ fn keeps_the_rules(header: &Header) -> bool {
     of_its_kind && header.items <= MOST_ITEMS
 }
 
-/// The first faulty item counts, and in it the lowest number.
+/// The first faulty item counts, and in it the lowest number. Any page will do.
 fn check_items(file: &[u8]) -> Result<(), Refusal> {
     let mut before = 0;
     for (number, bytes) in item_rows(file).iter().enumerate() {
         let item = read_item(bytes);
         let fault = if !is_marked(bytes) {
             4
-        } else if item.page == RESERVED_PAGE {
-            5
         } else if item.time < before {
             6
         } else {

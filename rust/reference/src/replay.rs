@@ -5,7 +5,7 @@ use crate::lru::Lru;
 use crate::page_map::{PageSet, PageState};
 use crate::run::step_over;
 use std::hash::BuildHasher;
-use types::limits::{LARGEST_CACHE, RESERVED_PAGE};
+use types::limits::LARGEST_CACHE;
 use types::{Frame, NUMBERS_PER_EVENT, Refusal, Summary};
 
 /// Replays a trace file with a cache of `size` pages that starts as the first
@@ -67,7 +67,7 @@ fn admit<S: BuildHasher + Default>(
 }
 
 /// Whether the first frames of the lent buffer can be a starting cache. Any
-/// marks can.
+/// pages can that are distinct, with any marks.
 fn can_start<S: BuildHasher + Default>(size: usize, cache: &[Frame], resident: usize) -> bool {
     if resident > size || cache.len() < size {
         return false;
@@ -75,5 +75,5 @@ fn can_start<S: BuildHasher + Default>(size: usize, cache: &[Frame], resident: u
     let mut seen = PageSet::<S>::default();
     cache[..resident]
         .iter()
-        .all(|frame| frame.page != RESERVED_PAGE && seen.insert(frame.page))
+        .all(|frame| seen.insert(frame.page))
 }

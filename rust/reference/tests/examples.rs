@@ -4,7 +4,8 @@ use reference::{Frame, Header, Refusal, Summary, check, join, reduce, replay, ru
 use types::Item;
 use types::layout::{encode, whole};
 
-const NONE: u64 = u64::MAX;
+/// The third number where nothing was evicted, which the fourth says.
+const NONE: u64 = 0;
 const DEMAND: u64 = 2;
 const FASTSLIM: u64 = 1;
 

@@ -90,24 +90,60 @@ fn lengths_are_refused_3() {
 }
 
 #[test]
-fn items_are_refused_4_to_6_and_the_first_faulty_counts() {
+fn items_are_refused_4_and_6_and_the_first_faulty_counts() {
     let good = file(0, 0, 4, 4);
     for at in 0..3 {
         let damaged = with(&good, 23 + 19 * 2 + at, 0xAA);
         assert_eq!(check(&damaged), Err(Refusal::of_item(4, 2)));
     }
-    let mut reserved = items(4);
-    reserved[1].page = u64::MAX;
-    reserved[3].time = 0;
-    assert_eq!(check(&whole(&reserved)), Err(Refusal::of_item(5, 1)));
     let mut falling = items(4);
     falling[3].time = 1;
     assert_eq!(check(&whole(&falling)), Err(Refusal::of_item(6, 3)));
-    // All three faults in one item: the lowest number.
-    falling[3].page = u64::MAX;
-    assert_eq!(check(&whole(&falling)), Err(Refusal::of_item(5, 3)));
-    let all_three = with(&whole(&falling), 23 + 19 * 3, 7);
-    assert_eq!(check(&all_three), Err(Refusal::of_item(4, 3)));
+    // Both faults in one item: the lower number.
+    let both = with(&whole(&falling), 23 + 19 * 3, 7);
+    assert_eq!(check(&both), Err(Refusal::of_item(4, 3)));
+    // In an earlier item the higher number counts.
+    let mut both = items(4);
+    both[1].time = 9;
+    let both = with(&whole(&both), 23 + 19 * 3, 7);
+    assert_eq!(check(&both), Err(Refusal::of_item(6, 2)));
+}
+
+/// The last page that 64 bits can name is a page like the others: an item of it
+/// is taken, and is held to the other rules.
+#[test]
+fn the_last_page_is_taken_and_held_to_the_other_rules() {
+    let good = file(0, 0, 4, 4);
+    for number in 0..4 {
+        let mut last = items(4);
+        last[number].page = u64::MAX;
+        for written in [false, true] {
+            last[number].written = written;
+            assert_eq!(check(&whole(&last)), check(&good), "item {number}");
+        }
+        let wrong_tag = with(&whole(&last), 23 + 19 * number, 7);
+        let refused = Err(Refusal::of_item(4, number as u64));
+        assert_eq!(check(&wrong_tag), refused);
+    }
+    let of_it_alone: Vec<Item> = (0..4).map(|time| Item::write(u64::MAX, time)).collect();
+    assert_eq!(check(&whole(&of_it_alone)), check(&good));
+}
+
+#[test]
+fn a_time_that_falls_at_the_last_page_is_6_there() {
+    for number in 1..4 {
+        let mut falling = items(4);
+        falling[number].page = u64::MAX;
+        falling[number].time = number as u64 - 1;
+        falling[number - 1].time = number as u64;
+        let refused = Err(Refusal::of_item(6, number as u64));
+        assert_eq!(check(&whole(&falling)), refused);
+        // And after it, where it is the item before.
+        let mut after = items(4);
+        after[number - 1].page = u64::MAX;
+        after[number - 1].time = 9;
+        assert_eq!(check(&whole(&after)), refused);
+    }
 }
 
 /// Tags 5 and 6 and no others, for each item by itself.
@@ -129,8 +165,8 @@ fn two_tags_are_taken_and_the_others_refused_4() {
     assert_eq!(check(&whole(&writes)), check(&good));
     writes[3].time = 1;
     assert_eq!(check(&whole(&writes)), Err(Refusal::of_item(6, 3)));
-    writes[2].page = u64::MAX;
-    assert_eq!(check(&whole(&writes)), Err(Refusal::of_item(5, 2)));
+    writes[3].page = u64::MAX;
+    assert_eq!(check(&whole(&writes)), Err(Refusal::of_item(6, 3)));
 }
 
 #[test]
@@ -254,14 +290,16 @@ fn replay_refuses_in_order_and_leaves_the_buffers() {
     assert!(replay(&slim, 2, &mut cache, 2, &mut events).is_ok());
 }
 
-/// A page is the same page whatever its mark.
+/// A page is the same page whatever its mark, the first and the last too.
 #[test]
 fn a_page_twice_is_refused_with_any_marks() {
     let file = file(0, 0, 4, 4);
-    for marks in [[false, false], [false, true], [true, false], [true, true]] {
-        let mut cache = marks.map(|written| Frame { page: 7, written });
-        let answer = replay(&file, 2, &mut cache, 2, &mut [0; 16]);
-        assert_eq!(answer, Err((Refusal::new(10), 2)));
+    for page in [7, 0, u64::MAX] {
+        for marks in [[false, false], [false, true], [true, false], [true, true]] {
+            let mut cache = marks.map(|written| Frame { page, written });
+            let answer = replay(&file, 2, &mut cache, 2, &mut [0; 16]);
+            assert_eq!(answer, Err((Refusal::new(10), 2)));
+        }
     }
 }
 
@@ -276,7 +314,7 @@ fn places_beyond_keep_what_they_had() {
     assert_eq!((summary.fetches, summary.resident), (1, 2));
     assert_eq!(cache[..2], [1, 0].map(Frame::clean));
     assert_eq!(cache[2..], beyond);
-    assert_eq!(events, [0, 0, u64::MAX, 0, 5, 5, 5, 5, 5, 5, 5, 5]);
+    assert_eq!(events, [0, 0, 0, 0, 5, 5, 5, 5, 5, 5, 5, 5]);
     let mut out = vec![9; short.len() + 4];
     reduce(&short, 2, 1, &mut out).unwrap();
     assert_eq!(out[short.len()..], [9; 4]);

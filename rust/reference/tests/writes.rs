@@ -6,7 +6,8 @@ use types::Item;
 use types::event::transfers;
 use types::layout::{file_bytes, whole};
 
-const NONE: u64 = u64::MAX;
+/// The third number where nothing was evicted, which the fourth says.
+const NONE: u64 = 0;
 const DEMAND: u64 = 2;
 const FASTSLIM: u64 = 1;
 const MODES: [u64; 2] = [FASTSLIM, DEMAND];

@@ -5,9 +5,9 @@ use compare::report::say;
 use stack::inputs::for_programs;
 use stack::programs::written;
 use types::event::{CLEAN, NOTHING, WRITTEN};
-use types::layout::file_bytes;
+use types::layout::{file_bytes, whole};
 use types::limits::{LARGEST_CACHE, LARGEST_FILTER};
-use types::{Frame, NUMBERS_PER_EVENT};
+use types::{Frame, Item, NUMBERS_PER_EVENT};
 
 /// Settings of the largest filter in mode 2, and of the largest cache.
 const REDUCE: (&str, &[u8]) = ("reduce", &[17, 3, 0, 2, 0, 4]);
@@ -66,6 +66,26 @@ fn replay_writes_the_librarys_lines() {
         let output = String::from_utf8(output(program)).expect("text");
         assert_eq!(output, replayed(size).0, "{size}");
     }
+}
+
+/// The line of a fetch has a dash where the fourth number says that nothing was
+/// evicted, and not where page 0 was or the last page.
+#[test]
+fn replay_tells_the_first_page_and_the_last_from_nothing() {
+    let pages = [u64::MAX, 0, u64::MAX, 5];
+    let item = |(page, time): (u64, u64)| Item::write(page, time);
+    let items: Vec<Item> = pages.into_iter().zip(1..).map(item).collect();
+    let input = [&[16, 2, 0, 1, 0], &whole(&items)[..]].concat();
+    let output = written("replay", &input).unwrap_or_else(|error| panic!("{error}"));
+    let lines = "\
+1 18446744073709551615 - 0
+2 0 18446744073709551615 2
+3 18446744073709551615 0 2
+4 5 18446744073709551615 2
+items 4 fetches 4 evictions 3 permillion 1000000
+pages 5
+";
+    assert_eq!(String::from_utf8_lossy(&output), lines);
 }
 
 /// Otherwise the lines would show little.

@@ -11,6 +11,3 @@ pub const MOST_ITEMS: u64 = 1_000_000;
 
 /// The most references a header can name: its field has four bytes.
 pub const MOST_REFERENCES: u64 = u32::MAX as u64;
-
-/// The page no item may name. In an event it says that nothing was evicted.
-pub const RESERVED_PAGE: u64 = u64::MAX;
