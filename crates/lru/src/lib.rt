@@ -110,19 +110,16 @@ fn make_room(log: &[u64], stale: &[u8], q: Queue, k: usize, e: usize) -> Evicted
     requires { ⌜ CanMake k (now log) (now stale) q ⌝ }
     ensures { λ r. ⌜ Made k e (now (log .entry)) (now (stale .entry)) q r ⌝ }
 {
+    let nothing = Evicted {
+        queue: q,
+        page: 0,
+        written: false,
+    };
     if q.low < e {
-        return Evicted {
-            queue: q,
-            page: 0,
-            written: false,
-        };
+        return nothing;
     }
     if q.resident < k {
-        return Evicted {
-            queue: q,
-            page: 0,
-            written: false,
-        };
+        return nothing;
     }
     recency::evict(log, stale, q)
 }

@@ -1,4 +1,4 @@
-// Tables as text: a line has the letter of its form, numbers, parted by a space or a slash, then a colon and a name. A dash is the reserved page.
+// Tables as text: a line has the letter of its form, numbers, parted by a space or a slash, then a colon and a name. A dash is 0.
 ghost use Prim.Native.Nat.{_≤_, _<_};
 ghost use lib.ListN.{length};
 
@@ -47,9 +47,6 @@ fn past(text: &[u8], at: usize) -> usize {
 
 // A number with one digit more. No table has a number that does not fit.
 fn with_digit(x: u64, digit: u8) -> u64 {
-    if digit == b'-' {
-        return 0xffff_ffff_ffff_ffff;
-    }
     if digit < 48 {
         return x;
     }
