@@ -1,4 +1,4 @@
--- A start that is not refused is a list of distinct pages with room for K, and such a start is not refused. Assumes nothing.
+-- Distinct pages with room for K are a start that is not refused, and no other is. Assumes nothing.
 use Prim.Native.Nat.{ℕ}
 use mathlib.Core.Path.{_≡_, refl}
 use mathlib.Core.Bool.{false, _||_}
@@ -15,6 +15,17 @@ use Rattle.lru.proofs.Room.{pages-count}
 use Rattle.replays.specs.Replay.{twice, badStart}
 use Rattle.replays.specs.Promises.{StartsFine, FineStarts}
 
+once-distinct : (l : List ℕ) → Distinct l → twice l ≡ false
+unfolding twice
+once-distinct [] d = refl
+once-distinct (p ∷ l) d = rw (d .0) (once-distinct l (d .1))
+
+-- Distinct pages, no more than K, in a row with room for K, are not refused.
+pub fine-starts : FineStarts
+unfolding badStart
+fine-starts K frames resident few places d =
+    rw (le-ltb K resident few, pages-count frames, le-ltb (length frames) K places, once-distinct (take resident (pagesOf frames)) (rw (pages-take resident frames) at d))
+
 distinct-once : (l : List ℕ) → twice l ≡ false → Distinct l
 unfolding twice
 distinct-once [] e = tt
@@ -30,14 +41,3 @@ starts-fine K frames resident e =
     let b = or-false (ltb (length cache) K) (twice s) (a .1) in
     let h = ltb-false K resident (a .0) in
     record { distinct = rw (pages-take resident frames) (distinct-once s (b .1)); room = rw length-take (omega arith) }
-
-once-distinct : (l : List ℕ) → Distinct l → twice l ≡ false
-unfolding twice
-once-distinct [] d = refl
-once-distinct (p ∷ l) d = rw (d .0) (once-distinct l (d .1))
-
--- And such a start, in a row with room for K, is not refused.
-pub fine-starts : FineStarts
-unfolding badStart
-fine-starts K frames resident few places d =
-    rw (le-ltb K resident few, pages-count frames, le-ltb (length frames) K places, once-distinct (take resident (pagesOf frames)) (rw (pages-take resident frames) at d))

@@ -38,7 +38,8 @@ fn has_twice(list: &[u64], next: &mut [u16], heads: &mut [u16]) -> bool
     chains::clear(heads);
     let mut i = 0;
     while i < list.len() {
-        if 0 < recency::find(list, next, heads, 0, i, list[i]) {
+        let page = list[i];
+        if 0 < recency::find(list, next, heads, 0, i, page) {
             return true;
         }
         recency::link(list, next, heads, i);
