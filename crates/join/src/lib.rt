@@ -117,7 +117,7 @@ fn of_second(r: Refusal) -> Refusal
     }
 }
 
-// The first file 1 to 6, the second 1 to 6, then 12, 13, 11.
+// The first file's own refusals, the second's, then 12, 13, 11.
 fn judge(f: &[u8], g: &[u8], room: usize) -> Judged
     ensures { λ r. ⌜ r ≡ judged (now (f .entry)) (now (g .entry)) room ⌝ }
 {

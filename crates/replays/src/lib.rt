@@ -63,7 +63,7 @@ fn bad_start(k: usize, cache: &[u64], resident: usize, next: &mut [u16], heads: 
     has_twice(start, next, heads)
 }
 
-// Refusals 1 to 6, 7, 9, 10, 11.
+// The file's own refusals, then 7, 9, 10, 11.
 fn judge(
     file: &[u8],
     k: u64,

@@ -357,7 +357,7 @@ fn mode_of(mode: u64) -> Mode
     Mode::Demand
 }
 
-// Refusals 1 to 6, 7, 8, 11, 14.
+// The file's own refusals, then 7, 8, 11, 14.
 fn judge(file: &[u8], mode: u64, size: u64, room: usize) -> Verdict
     ensures { λ r. ⌜ r ≡ reduceVerdict (now (file .entry)) mode size room ⌝ }
 {

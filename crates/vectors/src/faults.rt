@@ -1,4 +1,4 @@
-// Files that are refused by themselves, 1 to 6, through every call: as the first file trace 1, as the second file of a join trace 2.
+// Files that are refused by themselves, 1 to 4 and 6, through every call: as the first file trace 1, as the second file of a join trace 2.
 use super::ask;
 use super::ask::Reduction;
 use super::ask::Replaying;
