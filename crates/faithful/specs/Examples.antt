@@ -292,10 +292,10 @@ numbered =
     -- "Every 64-bit page is valid in items": of page 2^64−1 the first and the last item of the epoch are kept, and the last becomes a write.
     (pagesOf cutU says 0 ∷ top ∷ top ∷ 1 ∷ 2 ∷ 0 ∷ [])
     ∷ (writesOf cutU says 0 ∷ 0 ∷ 1 ∷ 0 ∷ 0 ∷ 0 ∷ [])
-    -- "The third number of an event is 0 where nothing was evicted": at 10 and 20. At 50 page 0 goes, and the fourth number is 1; at 60 page 2^64−1 goes, written.
+    -- "The third number of an event is 0, printed `-`, where nothing was evicted": at 10 and 20. At 50 page 0 goes, and the fourth number is 1; at 60 page 2^64−1 goes, written.
     ∷ (fetches 2 (file U) says 10 ∷ 0 ∷ 0 ∷ 0 ∷ 20 ∷ top ∷ 0 ∷ 0 ∷ 50 ∷ 1 ∷ 0 ∷ 1 ∷ 60 ∷ 2 ∷ top ∷ 2 ∷ 70 ∷ 0 ∷ 1 ∷ 1 ∷ [])
     ∷ (fetches 2 cutU says 10 ∷ 0 ∷ 0 ∷ 0 ∷ 20 ∷ top ∷ 0 ∷ 0 ∷ 50 ∷ 1 ∷ 0 ∷ 1 ∷ 60 ∷ 2 ∷ top ∷ 2 ∷ 70 ∷ 0 ∷ 1 ∷ 1 ∷ [])
-    -- "And in a starting cache": page 2^64−1 is there at 20, and goes last, at 70.
+    -- "And in a starting cache": page 2^64−1 is there at 20, and goes last, written, at 70.
     ∷ (take 16 (eventsAfter (file U) 3 fromTop 2 places) says 10 ∷ 0 ∷ 0 ∷ 0 ∷ 50 ∷ 1 ∷ 5 ∷ 1 ∷ 60 ∷ 2 ∷ 0 ∷ 1 ∷ 70 ∷ 0 ∷ top ∷ 2 ∷ [])
     ∷ (take 16 (eventsAfter cutU 3 fromTop 2 places) says 10 ∷ 0 ∷ 0 ∷ 0 ∷ 50 ∷ 1 ∷ 5 ∷ 1 ∷ 60 ∷ 2 ∷ 0 ∷ 1 ∷ 70 ∷ 0 ∷ top ∷ 2 ∷ [])
     ∷ (shown (framesAfter (file U) 3 fromTop 2 48) says 0 ∷ 0 ∷ 2 ∷ 0 ∷ 1 ∷ 0 ∷ [])

@@ -68,7 +68,7 @@ unfolding eventsAfter words word cost replayVerdict replayOf over badStart twice
     encode encodeHeader encodeItems encodeItem tagOf field bytes verdict first verdicts._then_ itemsVerdict isField isItem allowed header items itemsOf item numberAt number
 from-the-top = refl
 
--- A page twice is one there too.
+-- Page 2^64−1 twice is a page twice.
 top-twice : replayAnswer fileTop 2 (clean (top ∷ top ∷ [])) 2 16 ≡ Refused (refused 10 0) 2
 unfolding replayAnswer replayVerdict badStart twice has
     encode encodeHeader encodeItems encodeItem tagOf field bytes verdict first verdicts._then_ itemsVerdict isField isItem allowed header item numberAt number

@@ -14,7 +14,7 @@ use Rattle.replays.specs.Replay.{badStart}
 abbrev pub StartsFine : Type 0
 StartsFine = (K : ℕ) (frames : List Frame) (resident : ℕ) → badStart K (pagesOf frames) resident ≡ false → Fine K (take resident frames)
 
--- And no more than K distinct pages, in a row with K places, are a start, whatever pages they are: "every 64-bit page is valid in a starting cache".
+-- And distinct pages, no more than K, in a row with K places, are a start, whatever pages they are: "every 64-bit page is valid in items and in a starting cache".
 abbrev pub FineStarts : Type 0
 FineStarts =
     (K : ℕ) (frames : List Frame) (resident : ℕ) → resident ≤ K → K ≤ length frames → Distinct (pagesOf (take resident frames))

@@ -37,7 +37,7 @@ headerTests f =
     ∷ not (eqb (length f) (23 + 19 * header f .items)) ⇒ BadLength
     ∷ []
 
--- 4: "an item has a wrong tag or length"; 6: "an item's time is below the one before". (5 is withdrawn: "every 64-bit page is valid in items".)
+-- 4: "an item has a wrong tag or length"; 6: "an item's time is below the one before". ("5 is withdrawn": "every 64-bit page is valid in items".)
 -- The bytes of item i stand at the front of s, and the item before it was at time `before`.
 abbrev pub itemTests : ℕ → ℕ → List ℕ → List Test
 itemTests before i s =
