@@ -15,6 +15,12 @@ use Rattle.lru.proofs.Room.{pages-count}
 use Rattle.replays.specs.Replay.{twice, badStart}
 use Rattle.replays.specs.Promises.{StartsFine, FineStarts}
 
+-- Whether a page stands twice, both ways.
+distinct-once : (l : List ℕ) → twice l ≡ false → Distinct l
+unfolding twice
+distinct-once [] e = tt
+distinct-once (p ∷ l) e = let z = or-false (has p l) (twice l) e in (z .0, distinct-once l (z .1))
+
 once-distinct : (l : List ℕ) → Distinct l → twice l ≡ false
 unfolding twice
 once-distinct [] d = refl
@@ -25,11 +31,6 @@ pub fine-starts : FineStarts
 unfolding badStart
 fine-starts K frames resident few places d =
     rw (le-ltb K resident few, pages-count frames, le-ltb (length frames) K places, once-distinct (take resident (pagesOf frames)) (rw (pages-take resident frames) at d))
-
-distinct-once : (l : List ℕ) → twice l ≡ false → Distinct l
-unfolding twice
-distinct-once [] e = tt
-distinct-once (p ∷ l) e = let z = or-false (has p l) (twice l) e in (z .0, distinct-once l (z .1))
 
 -- A start that is not refused is a list of distinct pages with room for K.
 pub starts-fine : StartsFine
