@@ -1,4 +1,6 @@
 // Chains: places in buckets, in two rows of two-byte numbers. What the places hold is the caller's.
+#![tactic(auto)]
+
 ghost use Rattle.std.specs.Prelude.{◌≡◌, ◌-◌, ◌<◌, length, get_or, replicate};
 ghost use Rattle.chains.specs.Chains.{CanPush, heads_with, next_with, mixed};
 

@@ -6,7 +6,7 @@ use mathlib.Core.List.{List, [], ◌∷◌, ◌++◌, map}
 use lib.Dec.{leb, eqb}
 use Rattle.pages.specs.Rows.{cons_if, flat}
 use Rattle.pages.specs.Pages.{has, add}
-use Rattle.pages.proofs.Choice.{split, same, eqb_self, or-false as none_of}
+use Rattle.pages.proofs.Choice.{split, same, eqb_self, or_false as none_of}
 use Rattle.pages.proofs.Added.{has_join}
 use Rattle.trace.specs.declared.Item.{Item}
 use Rattle.epochs.specs.Epochs.{pages, cut, epochs}

@@ -1,12 +1,14 @@
 // A cache as it is lent: a row of frames, most recent first. Its two columns are plain rows, and all work is done on those: only `load` and `save` touch a frame,
 // and each is proved by a walk.
+#![tactic(auto)]
+
 ghost use Rattle.std.specs.Prelude.{◌≡◌, ◌≤◌, length, take};
 ghost use Rattle.pages.specs.Rows.{over};
 ghost use Rattle.frames.specs.Frames.{pages_of, marks_of, frames_of};
 
 // A page, and whether it was written since its fetch.
 #[repr(C)]
-#[derive(Drop)]
+#[derive(Clone, Copy)]
 pub struct Frame {
     pub page: u64,
     pub written: bool,

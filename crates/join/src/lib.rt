@@ -1,4 +1,6 @@
 // The join of two trace files: the items of the first, then of the second.
+#![tactic(auto)]
+
 ghost use Rattle.std.specs.Prelude.{◌≡◌, ◌+◌, ◌*◌, ◌≤◌, ◌<◌, max, length};
 ghost use Rattle.std.proofs.lemmas.List.Edits.{sets};
 ghost use Rattle.pages.specs.Rows.{over};
@@ -13,14 +15,14 @@ ghost use Rattle.join.specs.Join.{joined_kind, joined_header, joined_file, meets
 use limits::{Items, ItemsMade};
 use trace::{Header, Reason, Refusal, Verdict};
 
-#[derive(Drop)]
+#[derive(Clone, Copy)]
 pub enum Joined {
     Written(Header),
     Refused(Refusal),
 }
 
 // Whether a join is refused.
-#[derive(Drop)]
+#[derive(Clone, Copy)]
 pub enum Judged {
     Passed,
     Failed(Refusal),

@@ -1,15 +1,11 @@
 -- Sizes within limits. The limits are the code's constants: a definition takes them, and a contract hands them over. Assumes nothing.
 use Rattle.std.specs.Prelude.{ℕ, Bool, cond, ◌&&◌, leb}
-use Rattle.limits.specs.declared.Filter.{Filter}
 use Rattle.limits.specs.declared.FilterMade.{FilterMade}
 use Rattle.limits.specs.declared.FilterMade.TheVariants as filter
-use Rattle.limits.specs.declared.Cache.{Cache}
 use Rattle.limits.specs.declared.CacheMade.{CacheMade}
 use Rattle.limits.specs.declared.CacheMade.TheVariants as cache
-use Rattle.limits.specs.declared.Items.{Items}
 use Rattle.limits.specs.declared.ItemsMade.{ItemsMade}
 use Rattle.limits.specs.declared.ItemsMade.TheVariants as items
-use Rattle.limits.specs.declared.Input.{Input}
 use Rattle.limits.specs.declared.InputMade.{InputMade}
 use Rattle.limits.specs.declared.InputMade.TheVariants as input
 

@@ -1,50 +1,52 @@
 // The limits, each stated once, beside the thing that it limits.
+#![tactic(auto)]
+
 ghost use Rattle.std.specs.Prelude.{◌≡◌};
 ghost use Rattle.limits.specs.Sizes.{between, filter_of, cache_of, items_of, input_of};
 
 // The size of a filter.
-#[derive(Drop)]
+#[derive(Clone, Copy)]
 pub struct Filter {
     size: u64,
 }
 
-#[derive(Drop)]
+#[derive(Clone, Copy)]
 pub enum FilterMade {
     Ready(Filter),
     Outside,
 }
 
 // The size of a cache.
-#[derive(Drop)]
+#[derive(Clone, Copy)]
 pub struct Cache {
     size: u64,
 }
 
-#[derive(Drop)]
+#[derive(Clone, Copy)]
 pub enum CacheMade {
     Ready(Cache),
     Outside,
 }
 
 // How many items a file has.
-#[derive(Drop)]
+#[derive(Clone, Copy)]
 pub struct Items {
     count: u64,
 }
 
-#[derive(Drop)]
+#[derive(Clone, Copy)]
 pub enum ItemsMade {
     Ready(Items),
     Outside,
 }
 
 // How many bytes a program takes, settings included.
-#[derive(Drop)]
+#[derive(Clone, Copy)]
 pub struct Input {
     length: u64,
 }
 
-#[derive(Drop)]
+#[derive(Clone, Copy)]
 pub enum InputMade {
     Ready(Input),
     Outside,
@@ -69,7 +71,7 @@ impl Filter {
     pub const PLACES: usize = Filter::MOST as usize;
 
     pub fn new(size: u64) -> FilterMade
-        ensures* { do ⌜ result ≡ filter_of (← (⟦Filter::LEAST⟧).entry) (← (⟦Filter::MOST⟧).entry) size ⌝ }
+        ensures { result ≡ filter_of Self.LEAST Self.MOST size }
     {
         if lies(Filter::LEAST, Filter::MOST, size) {
             return FilterMade::Ready(Filter { size });
@@ -93,7 +95,7 @@ impl Cache {
     pub const PLACES: usize = Cache::MOST as usize;
 
     pub fn new(size: u64) -> CacheMade
-        ensures* { do ⌜ result ≡ cache_of (← (⟦Cache::LEAST⟧).entry) (← (⟦Cache::MOST⟧).entry) size ⌝ }
+        ensures { result ≡ cache_of Self.LEAST Self.MOST size }
     {
         if lies(Cache::LEAST, Cache::MOST, size) {
             return CacheMade::Ready(Cache { size });
@@ -114,7 +116,7 @@ impl Items {
     pub const MOST: u64 = 1_000_000;
 
     pub fn new(count: u64) -> ItemsMade
-        ensures* { do ⌜ result ≡ items_of (← (⟦Items::LEAST⟧).entry) (← (⟦Items::MOST⟧).entry) count ⌝ }
+        ensures { result ≡ items_of Self.LEAST Self.MOST count }
     {
         if lies(Items::LEAST, Items::MOST, count) {
             return ItemsMade::Ready(Items { count });
@@ -138,7 +140,7 @@ impl Input {
     pub const PLACES: usize = Input::MOST as usize;
 
     pub fn new(length: u64) -> InputMade
-        ensures* { do ⌜ result ≡ input_of (← (⟦Input::LEAST⟧).entry) (← (⟦Input::MOST⟧).entry) length ⌝ }
+        ensures { result ≡ input_of Self.LEAST Self.MOST length }
     {
         if lies(Input::LEAST, Input::MOST, length) {
             return InputMade::Ready(Input { length });

@@ -1,4 +1,6 @@
 // What a cache that evicts the least recently used page does with the items of a trace.
+#![tactic(auto)]
+
 ghost use Rattle.std.specs.Prelude.{◌≡◌, [], ◌∷◌, ◌+◌, ◌*◌, ◌≤◌, ◌<◌, length, take};
 ghost use Rattle.std.proofs.lemmas.List.Edits.{sets};
 ghost use Rattle.limits.proofs.Numbers.{items_most};
@@ -13,7 +15,7 @@ use recency::{Evicted, Queue};
 use trace::Item;
 
 // How many items there were, and how many of them were fetches and evictions.
-#[derive(Drop)]
+#[derive(Clone, Copy)]
 pub struct Tally {
     pub items: u64,
     pub fetches: u64,
@@ -21,7 +23,7 @@ pub struct Tally {
 }
 
 // What an item did: the cache after it, and whether a page was fetched and one evicted.
-#[derive(Drop)]
+#[derive(Clone, Copy)]
 pub struct Effect {
     pub queue: Queue,
     pub fetched: bool,
@@ -29,14 +31,14 @@ pub struct Effect {
 }
 
 // What items did, with the cache after them.
-#[derive(Drop)]
+#[derive(Clone, Copy)]
 pub struct Played {
     pub tally: Tally,
     pub queue: Queue,
 }
 
 // What all items did.
-#[derive(Drop)]
+#[derive(Clone, Copy)]
 pub struct Finish {
     pub tally: Tally,
     pub resident: usize,

@@ -7,7 +7,7 @@ use native.Mathlib.Omega.{arith}
 use lib.ListN.{length, length-append}
 use lib.Dec.{eqb}
 use Rattle.pages.specs.Pages.{has, add, Distinct}
-use Rattle.pages.proofs.Choice.{split, same, eqb_sym, or-false as neither}
+use Rattle.pages.proofs.Choice.{split, same, eqb_sym, or_false as neither}
 
 -- A page is in two lists one after the other if it is in one of them.
 pub has_join : (x : ℕ) (a b : List ℕ) → has x (a ++ b) ≡ has x a || has x b

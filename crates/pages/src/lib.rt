@@ -1,1 +1,3 @@
+#![tactic(auto)]
+
 // Lists of pages, and of anything: definitions and laws that the crates above share. No code.

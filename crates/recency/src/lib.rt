@@ -1,5 +1,7 @@
 // The order of recency as a log of pages: every use of a page appends it, and a page counts where it stands last; that place says whether it was written.
 // Chains by bucket find it.
+#![tactic(auto)]
+
 ghost use Rattle.std.specs.Prelude.{◌≡◌, ◌+◌, ◌≤◌, ◌<◌, length, ◌∷◌, ◌||◌};
 ghost use Rattle.pages.specs.Rows.{over};
 ghost use Rattle.frames.specs.Frames.{framed, pages_of, marks_of, frames_of, dirty, taken};
@@ -14,7 +16,7 @@ pub const PLACES: usize = 8192;
 pub const BUCKETS: usize = 8192;
 
 // The places of the log from `low` up to `now` are in use, and so many pages are resident.
-#[derive(Drop)]
+#[derive(Clone, Copy)]
 pub struct Queue {
     pub resident: usize,
     pub low: usize,
@@ -22,7 +24,7 @@ pub struct Queue {
 }
 
 // A cache after an eviction, with the page evicted and whether it was written.
-#[derive(Drop)]
+#[derive(Clone, Copy)]
 pub struct Evicted {
     pub queue: Queue,
     pub page: u64,

@@ -1,4 +1,6 @@
 // Reads a settings field and a trace from standard input, and writes the reduced file, or the line of the refusal.
+#![tactic(auto)]
+
 use limits::Input;
 
 fn main() {

@@ -1,4 +1,6 @@
 // A replay of a trace file through a cache that evicts the least recently used page: what is refused, and what is answered. The cache is two columns, pages and marks.
+#![tactic(auto)]
+
 ghost use Rattle.std.specs.Prelude.{◌≡◌, length};
 ghost use Rattle.limits.proofs.Numbers.{cache_most};
 ghost use Rattle.pages.specs.Rows.{over};
@@ -13,7 +15,7 @@ use limits::{Cache, CacheMade};
 use trace::{Reason, Refusal, Verdict};
 
 // What is told of a replay.
-#[derive(Drop)]
+#[derive(Clone, Copy)]
 pub struct Summary {
     pub items: u64,
     pub fetches: u64,
@@ -22,7 +24,7 @@ pub struct Summary {
     pub permillion: u64,
 }
 
-#[derive(Drop)]
+#[derive(Clone, Copy)]
 pub enum Replayed {
     Done(Summary),
     // The refusal, and the resident count that was given.

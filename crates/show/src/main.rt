@@ -1,4 +1,6 @@
 // Reads a trace file from standard input, and writes what `check` answers.
+#![tactic(auto)]
+
 use trace::{Checked, Header, Refusal};
 
 fn field(name: &[u8], value: u64) {

@@ -11,7 +11,7 @@ use lib.Dec.{eqb}
 use borrow.Author.Tests.{eqb-false}
 use Rattle.pages.specs.Rows.{flat}
 use Rattle.pages.specs.Pages.{has, add}
-use Rattle.pages.proofs.Choice.{split, same, or-false as or_neither}
+use Rattle.pages.proofs.Choice.{split, same, or_false as or_neither}
 use Rattle.pages.proofs.Added.{has_join}
 use Rattle.filter.specs.Filter.{pages_of, pages_in, Holds, IsFilter, Clear}
 use Rattle.filter.proofs.Noting.{notes-long}

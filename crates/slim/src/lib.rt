@@ -1,4 +1,6 @@
 // The two reductions of a trace, FastSlim and FastSlim-Demand.
+#![tactic(auto)]
+
 ghost use Rattle.std.specs.Prelude.{◌≡◌, true, cond, ◌+◌, ◌*◌, ◌≤◌, length, get_or, take, set, eqb};
 ghost use Rattle.std.proofs.lemmas.List.Edits.{sets};
 ghost use Rattle.pages.specs.Rows.{over};
@@ -18,21 +20,21 @@ use trace::{Header, Item, Reason, Refusal, Verdict};
 // The bytes for a flag of each place of the filter.
 const FLAG_BYTES: usize = Filter::PLACES / 2;
 
-#[derive(Drop)]
+#[derive(Clone, Copy)]
 pub enum Reduced {
     Written(Header),
     Refused(Refusal),
 }
 
 // Where a stretch ends, and how many pages the filter then holds.
-#[derive(Drop)]
+#[derive(Clone, Copy)]
 pub struct Reach {
     pub end: usize,
     pub held: usize,
 }
 
 // How many items are in the output after a stretch, and how many pages are owed a write.
-#[derive(Drop)]
+#[derive(Clone, Copy)]
 pub struct Progress {
     pub done: usize,
     pub owing: usize,

@@ -1,5 +1,7 @@
 // Runs the table of vectors that the crate's file `stdin` has, the paper's examples that are not proved as theorems, and compares. A line for
 // each, and at last how many passed and failed.
+#![tactic(auto)]
+
 mod answer;
 mod ask;
 mod build;
