@@ -9,7 +9,6 @@ use Rattle.trace.specs.Verdict.{Test, ◌⇒◌, first}
 use Rattle.trace.specs.Check.{verdict}
 use Rattle.trace.specs.declared.Header.{Header}
 use Rattle.trace.specs.declared.Reason.TheVariants.{JoinFalls, JoinTooLarge, NoRoom}
-use Rattle.trace.specs.declared.Verdict.{Verdict}
 use Rattle.trace.specs.declared.Verdict.TheVariants.{Sound, Faulty}
 use Rattle.join.specs.declared.Judged.{Judged}
 use Rattle.join.specs.declared.Judged.TheVariants.{Passed, Failed}
