@@ -1,0 +1,73 @@
+-- `filter::scan` meets its contract. Assumes nothing.
+use mathlib.Core.Path.{refl}
+use borrow.Author.Rules.{rules}
+use Rattle.filter.proofs.Noting.{notes-stands, notes-place}
+use Rattle.filter.proofs.Finding.{ahead, ahead_by, scan_none, scan_found, scan_four, scan_more, scan_all}
+use Rattle.filter.proofs.scan.Goals as goal
+
+ruleset stands = (notes-stands, ahead, ahead_by)
+
+ruleset laws = (scan_none, scan_more, scan_all, rules)
+
+pub loop-j-init : goal.loop-j-init
+loop-j-init c =
+    search laws
+
+pub page_at-requires : goal.page_at-requires
+page_at-requires c =
+    search stands
+
+pub returns-then-page_at-page : goal.returns-then-page_at-page
+returns-then-page_at-page c =
+    search (notes-place, ahead)
+
+pub page_at-requires-in-loop-j : goal.page_at-requires-in-loop-j
+page_at-requires-in-loop-j c =
+    search stands
+
+-- One of the three places after the first has the page.
+pub returns-then-page_at-page-2 : goal.returns-then-page_at-page-2
+returns-then-page_at-page-2 c =
+    scan_found c.requires c.loop-j.invariant 1 refl c.loop-j-test.true c.page_at-in-loop-j.ensures c.if-page_at-page-2.true
+
+pub page_at-requires-in-loop-j-2 : goal.page_at-requires-in-loop-j-2
+page_at-requires-in-loop-j-2 c =
+    search stands
+
+pub returns-then-page_at-page-3 : goal.returns-then-page_at-page-3
+returns-then-page_at-page-3 c =
+    scan_found c.requires c.loop-j.invariant 2 refl c.loop-j-test.true c.page_at-in-loop-j-2.ensures c.if-page_at-page-3.true
+
+pub page_at-requires-in-loop-j-3 : goal.page_at-requires-in-loop-j-3
+page_at-requires-in-loop-j-3 c =
+    search stands
+
+pub returns-then-page_at-page-4 : goal.returns-then-page_at-page-4
+returns-then-page_at-page-4 c =
+    scan_found c.requires c.loop-j.invariant 3 refl c.loop-j-test.true c.page_at-in-loop-j-3.ensures c.if-page_at-page-4.true
+
+-- None of the four has it.
+pub loop-j-preserved : goal.loop-j-preserved
+loop-j-preserved c =
+    scan_four c.requires c.loop-j.invariant c.loop-j-test.true c.page_at.ensures c.if-page_at-page.false
+    c.page_at-in-loop-j.ensures c.if-page_at-page-2.false c.page_at-in-loop-j-2.ensures c.if-page_at-page-3.false c.page_at-in-loop-j-3.ensures c.if-page_at-page-4.false
+
+pub loop-j-2-init : goal.loop-j-2-init
+loop-j-2-init c =
+    search laws
+
+pub page_at-requires-in-loop-j-2-2 : goal.page_at-requires-in-loop-j-2-2
+page_at-requires-in-loop-j-2-2 c =
+    search notes-stands
+
+pub returns-then-page_at-page-5 : goal.returns-then-page_at-page-5
+returns-then-page_at-page-5 c =
+    search notes-place
+
+pub loop-j-2-preserved : goal.loop-j-2-preserved
+loop-j-2-preserved c =
+    search scan_more
+
+pub returns : goal.returns
+returns c =
+    search scan_all
