@@ -1,5 +1,4 @@
-// A cache as it is lent: a row of frames, most recent first. Its two columns are plain rows, and all work is done on those: only `load` and `save` touch a frame,
-// and each is proved by a walk.
+// A cache as it is lent: a row of frames, most recent first. Its two columns are plain rows, and all work is done on those: only `load` and `save` touch a frame.
 #![tactic(auto)]
 
 ghost use Rattle.std.specs.Prelude.{◌≡◌, ◌≤◌, length, take};
