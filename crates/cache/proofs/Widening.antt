@@ -20,7 +20,7 @@ use Rattle.trace.specs.Verdict.{first}
 use Rattle.trace.specs.declared.Reason.{Reason}
 use Rattle.trace.specs.declared.Verdict.{Verdict}
 use Rattle.trace.specs.declared.Verdict.TheVariants.{Sound, Faulty}
-use Rattle.lru.proofs.Room.{stays_fine}
+use Rattle.lru_cache.proofs.Room.{stays_fine}
 use Rattle.replays.specs.Replay.{bad_start, replay_tests, replay_verdict, replay_of, summary_of, replay_answer, frames_after, events_after}
 use Rattle.replays.proofs.Judging.{replay_then, Playable, sound_playable}
 use Rattle.replays.proofs.Fine.{starts_fine}

@@ -23,7 +23,7 @@ use Rattle.epochs.specs.Keep.{is_first, is_last, phase, keeps, settle, marked, r
 use Rattle.slim.specs.Reduce.{mode_of, kept_of, reduced_header, reduced_file}
 use Rattle.join.specs.Join.{joined_kind, joined_header, joined_file}
 use Rattle.join.specs.Trees.{files, joined}
-use Rattle.lru.specs.Lru.{replay}
+use Rattle.lru_cache.specs.Lru.{replay}
 use Rattle.replays.specs.Replay.{frames_after, events_after}
 use Rattle.faithful.specs.Parts.{recorded}
 use Rattle.faithful.specs.Demand3.{IsRecording, Portion, IsCut, short, IsJoinOf, IsCache, Faithful}

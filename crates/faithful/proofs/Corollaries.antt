@@ -25,7 +25,7 @@ use Rattle.epochs.specs.declared.Mode.TheVariants.{FastSlim, Demand}
 use Rattle.slim.specs.Reduce.{is_mode}
 use Rattle.join.specs.Trees.{Tree, files, joined, Within, header_of_all}
 use Rattle.join.proofs.Trees.{joins_trees, sums_enough, joins_associate}
-use Rattle.lru.specs.Lru.{Event, Outcome, cost, words}
+use Rattle.lru_cache.specs.Lru.{Event, Outcome, cost, words}
 use Rattle.replays.specs.Replay.{replay_of}
 use Rattle.faithful.specs.Parts.{Part, recorded}
 use Rattle.faithful.specs.Demand3.{Portion, IsPortion, IsCut, short, IsCache}

@@ -15,7 +15,7 @@ use Rattle.slim.specs.Reduce.{mode_of, kept_of, reduced_header, reduced_file}
 use Rattle.join.specs.Join.{joined_kind, joined_header, joined_file}
 use Rattle.join.specs.Trees.{Tree, joined}
 use Rattle.join.specs.Trees.Tree.{one, both}
-use Rattle.lru.specs.Lru.{hit, fetch, step, ◌then◌, replay, word, cost, words}
+use Rattle.lru_cache.specs.Lru.{hit, fetch, step, ◌then◌, replay, word, cost, words}
 use Rattle.epochs.specs.declared.Mode.TheVariants.{FastSlim, Demand}
 use Rattle.faithful.specs.Parts.{Part}
 use Rattle.faithful.specs.Demand3.{short}

@@ -10,7 +10,7 @@ use Rattle.trace.specs.declared.Item.{Item}
 use Rattle.epochs.specs.declared.Mode.{Mode}
 use Rattle.epochs.specs.declared.Mode.TheVariants.{FastSlim, Demand}
 use Rattle.join.specs.Trees.{Tree, files, joined, Within}
-use Rattle.lru.specs.Lru.{Event, replay, cost}
+use Rattle.lru_cache.specs.Lru.{Event, replay, cost}
 use Rattle.replays.specs.Replay.{replay_of, frames_after, events_after}
 use Rattle.faithful.specs.Parts.{Part, recorded}
 use Rattle.faithful.specs.Demand3.{IsRecording, Portion, IsCut, short, IsJoinOf, IsCache, ReplaysAs, Faithful}

@@ -21,8 +21,8 @@ use Rattle.slim.specs.declared.Reduced.TheVariants as reductions
 use Rattle.join.specs.Join.{joined_kind, joined_header, joined_file, meets_falling, too_large, judged, join_answer}
 use Rattle.join.specs.declared.Joined.{Joined}
 use Rattle.join.specs.declared.Joined.TheVariants as joins
-use Rattle.lru.specs.Lru.{Event, hit, fetch, step, ◌then◌, replay, word, cost, words}
-use Rattle.lru.specs.Tally.{one_of, is_fetch, is_eviction, tallied, tally, per_million}
+use Rattle.lru_cache.specs.Lru.{Event, hit, fetch, step, ◌then◌, replay, word, cost, words}
+use Rattle.lru_cache.specs.Tally.{one_of, is_fetch, is_eviction, tallied, tally, per_million}
 use Rattle.replays.specs.Replay.{twice, bad_start, replay_verdict, replay_of, summary_of, replay_answer, frames_after, events_after}
 use Rattle.replays.specs.declared.Replayed.{Replayed}
 use Rattle.replays.specs.declared.Replayed.TheVariants as replays

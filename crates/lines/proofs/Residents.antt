@@ -9,8 +9,8 @@ use Rattle.pages.proofs.Choice.{split}
 use Rattle.frames.specs.Frames.{pages_of}
 use Rattle.frames.specs.declared.Frame.{Frame}
 use Rattle.trace.specs.declared.Item.{Item}
-use Rattle.lru.specs.Lru.{hit, fetch, step, ◌then◌, replay}
-use Rattle.lru.proofs.Room.{taken-count}
+use Rattle.lru_cache.specs.Lru.{hit, fetch, step, ◌then◌, replay}
+use Rattle.lru_cache.proofs.Room.{taken-count}
 
 init_few : (s : List Frame) → length (drop_last s) ≤ length s
 init_few [] = omega arith

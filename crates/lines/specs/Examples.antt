@@ -12,8 +12,8 @@ use Rattle.trace.specs.Examples.{◌at◌, ◌writes◌, top, whole, file_T}
 use Rattle.epochs.specs.Epochs.{pages, cut, epochs}
 use Rattle.epochs.specs.Keep.{is_first, is_last, phase, keeps, settle, marked, reduce}
 use Rattle.slim.specs.Reduce.{is_mode, mode_of, kept_of, reduced_header, reduced_file, falls, reduce_verdict}
-use Rattle.lru.specs.Lru.{replay, step, hit, fetch, cost, ◌then◌ as ◌and◌}
-use Rattle.lru.specs.Tally.{tally, tallied, is_fetch, is_eviction, per_million}
+use Rattle.lru_cache.specs.Lru.{replay, step, hit, fetch, cost, ◌then◌ as ◌and◌}
+use Rattle.lru_cache.specs.Tally.{tally, tallied, is_fetch, is_eviction, per_million}
 use Rattle.replays.specs.Replay.{twice, bad_start, replay_verdict, replay_of, summary_of}
 use Rattle.lines.specs.Text.{leading, digits, refusal_line}
 use Rattle.lines.specs.Report.{report, fetch_lines, tally_line, pages_line, page_fields}

@@ -11,7 +11,7 @@ use Rattle.pages.specs.Pages.{has, Distinct}
 use Rattle.pages.proofs.Choice.{or_false}
 use Rattle.frames.specs.Frames.{pages_of}
 use Rattle.frames.proofs.Columns.{pages-take}
-use Rattle.lru.proofs.Room.{pages-count}
+use Rattle.lru_cache.proofs.Room.{pages-count}
 use Rattle.replays.specs.Replay.{twice, bad_start}
 use Rattle.replays.specs.Promises.{StartsFine, FineStarts}
 

@@ -21,14 +21,14 @@ use Rattle.trace.specs.declared.Verdict.TheVariants.{Sound, Faulty}
 use Rattle.trace.proofs.Allowed.{allowed_facts}
 use Rattle.trace.proofs.Checking.{sound_file}
 use Rattle.trace.proofs.Items.{items-from, length_from}
-use Rattle.lru.specs.Lru.{replay, words}
-use Rattle.lru.specs.Tally.{nothing, tally, per_million}
+use Rattle.lru_cache.specs.Lru.{replay, words}
+use Rattle.lru_cache.specs.Tally.{nothing, tally, per_million}
 use Rattle.replays.specs.Replay.{bad_start, replay_verdict, replay_of, summary_of, replay_answer, frames_after, events_after}
-use Rattle.lru.specs.Passes.{CanRun, Ran}
-use Rattle.lru.specs.declared.Finish.{Finish}
+use Rattle.lru_cache.specs.Passes.{CanRun, Ran}
+use Rattle.lru_cache.specs.declared.Finish.{Finish}
 use Rattle.replays.specs.declared.Summary.{Summary}
 use Rattle.replays.specs.declared.Replayed.TheVariants.{Done, Refused}
-use Rattle.lru.proofs.Counting.{tally_counts, fetches-few}
+use Rattle.lru_cache.proofs.Counting.{tally_counts, fetches-few}
 use Rattle.replays.proofs.Judging.{Playable, sound_playable}
 use Rattle.replays.proofs.Fine.{starts_fine}
 

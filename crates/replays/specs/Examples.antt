@@ -12,8 +12,8 @@ use Rattle.trace.specs.Verdict.{first}
 use Rattle.trace.specs.Verdict as verdicts
 use Rattle.trace.specs.Check.{is_field, is_item, items_verdict, verdict}
 use Rattle.trace.specs.Examples.{◌at◌, top, whole, file_T}
-use Rattle.lru.specs.Lru.{hit, fetch, step, ◌then◌, replay, word, cost, words}
-use Rattle.lru.specs.Tally.{is_fetch, is_eviction, tallied, tally, per_million}
+use Rattle.lru_cache.specs.Lru.{hit, fetch, step, ◌then◌, replay, word, cost, words}
+use Rattle.lru_cache.specs.Tally.{is_fetch, is_eviction, tallied, tally, per_million}
 use Rattle.replays.specs.Replay.{twice, bad_start, replay_verdict, replay_of, summary_of, replay_answer, frames_after, events_after}
 use Rattle.replays.specs.declared.Replayed.TheVariants.{Done, Refused}
 

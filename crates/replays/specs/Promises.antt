@@ -3,7 +3,7 @@ use Rattle.std.specs.Prelude.{ℕ, ◌≤◌, ◌≡◌, false, List, length, ta
 use Rattle.pages.specs.Pages.{Distinct}
 use Rattle.frames.specs.Frames.{pages_of}
 use Rattle.frames.specs.declared.Frame.{Frame}
-use Rattle.lru.specs.Promises.{Fine}
+use Rattle.lru_cache.specs.Promises.{Fine}
 use Rattle.replays.specs.Replay.{bad_start}
 
 -- The list at the start is a list of distinct pages with room for K, unless the replay is refused.

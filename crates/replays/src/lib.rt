@@ -6,8 +6,8 @@ ghost use Rattle.limits.proofs.Numbers.{cache_most};
 ghost use Rattle.pages.specs.Rows.{over};
 ghost use Rattle.trace.specs.declared.Verdict.TheVariants.{Sound};
 ghost use Rattle.frames.specs.Frames.{pages_of, marks_of, frames_of};
-ghost use Rattle.lru.specs.Lru.{words};
-ghost use Rattle.lru.specs.Passes.{Rows};
+ghost use Rattle.lru_cache.specs.Lru.{words};
+ghost use Rattle.lru_cache.specs.Passes.{Rows};
 ghost use Rattle.replays.specs.Replay.{twice, bad_start, replay_verdict, replay_of, summary_of, replay_answer, frames_after, events_after};
 ghost use Rattle.replays.specs.Passes.{CanSift, CanStart};
 
@@ -121,7 +121,7 @@ fn replay_sound(
         (frames_of cache.old kept.old) resident).events) events.old }
 {
     let h = trace::read::header_at(file);
-    let f = lru::run(
+    let f = lru_cache::run(
         file,
         h.items as usize,
         k as usize,
@@ -140,7 +140,7 @@ fn replay_sound(
         fetches: t.fetches,
         evictions: t.evictions,
         resident: f.resident as u64,
-        permillion: lru::per_million(t.fetches, t.items),
+        permillion: lru_cache::per_million(t.fetches, t.items),
     }
 }
 

@@ -12,7 +12,7 @@ use Rattle.limits.specs.Sizes.{between}
 use Rattle.limits.proofs.Numbers.{filter_least, filter_most}
 use Rattle.pages.specs.Rows.{over}
 use Rattle.pages.proofs.Choice.{and_true}
-use Rattle.trace.specs.Layout.{header, items, items_from, encode_header, encode_items}
+use Rattle.trace.specs.Layout.{header, items_from, encode_header, encode_items}
 use Rattle.trace.specs.Refusals.{row}
 use Rattle.trace.specs.Verdict.{first, ◌then◌}
 use Rattle.trace.specs.Check.{verdict}

@@ -1,6 +1,6 @@
 -- `replays::replay_in` meets its contract. Assumes nothing.
 use borrow.Author.Rules.{rules}
-use Rattle.lru.proofs.Rows.{rows_kept}
+use Rattle.lru_cache.proofs.Rows.{rows_kept}
 use Rattle.replays.proofs.Replaying.{refused-answer, refused_cache, refused-kept, refused-events, done_sound, done_answer, done_cache, done_kept, done_events}
 use Rattle.replays.proofs.replay_in.Statement.{statement}
 use Rattle.replays.proofs.replay_in.Tie as tie

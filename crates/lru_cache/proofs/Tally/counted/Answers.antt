@@ -1,0 +1,8 @@
+-- `lru_cache::Tally::counted` meets its contract. Assumes nothing.
+use borrow.Author.Rules.{rules}
+use Rattle.lru_cache.proofs.Counting.{counted_is}
+use Rattle.lru_cache.proofs.Tally.counted.Goals as goal
+
+pub returns : goal.returns
+returns c =
+    search counted_is

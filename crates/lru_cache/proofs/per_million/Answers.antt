@@ -1,0 +1,14 @@
+-- `lru_cache::per_million` meets its contract. Assumes nothing.
+use borrow.Author.Rules.{rules}
+use Rattle.lru_cache.proofs.Counting.{rate-none, rate-some}
+use Rattle.lru_cache.proofs.per_million.Goals as goal
+
+ruleset laws = (rate-none, rate-some)
+
+pub returns-then-items-eq0 : goal.returns-then-items-eq0
+returns-then-items-eq0 c =
+    search laws
+
+pub returns : goal.returns
+returns c =
+    search laws
