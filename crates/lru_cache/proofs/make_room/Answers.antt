@@ -1,5 +1,4 @@
 -- `lru_cache::make_room` meets its contract. Assumes nothing.
-use borrow.Author.Rules.{rules}
 use Rattle.lru_cache.proofs.Steps.{made_found, made_room, made_full}
 use Rattle.lru_cache.proofs.make_room.Goals as goal
 

@@ -1,5 +1,4 @@
 -- `lru_cache::per_million` meets its contract. Assumes nothing.
-use borrow.Author.Rules.{rules}
 use Rattle.lru_cache.proofs.Counting.{rate-none, rate-some}
 use Rattle.lru_cache.proofs.per_million.Goals as goal
 

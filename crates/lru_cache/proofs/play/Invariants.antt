@@ -1,7 +1,6 @@
 -- `lru_cache::play` meets its contract. Assumes nothing.
 use Prim.Native.Nat.{◌-◌}
-use borrow.Author.Rules.{rules}
-use Rattle.lru_cache.proofs.Turns.{Running, running_none, running_step, running_room, running_more, running_all}
+use Rattle.lru_cache.proofs.Turns.{Running}
 use Rattle.lru_cache.proofs.play.Given as goal
 
 abbrev pub invariant-loop-i : goal.invariant-loop-i

@@ -1,7 +1,6 @@
 -- `lru_cache::put` meets its contract. Assumes nothing.
 use native.Mathlib.Omega.{arith}
 use lib.ListN.{length-set}
-use borrow.Author.Rules.{rules}
 use Rattle.lru_cache.proofs.Words.{put_four}
 use Rattle.lru_cache.proofs.put.Goals as goal
 

@@ -1,6 +1,5 @@
 -- `lru_cache::run` meets its contract. Assumes nothing.
 use mathlib.Core.Path.{◌∙◌}
-use borrow.Author.Rules.{rules}
 use Rattle.lru_cache.proofs.Rows.{run_load, run_play, run_save, run_done}
 use Rattle.lru_cache.proofs.run.Goals as goal
 

@@ -1,5 +1,4 @@
 -- `lru_cache::step` meets its contract. Assumes nothing.
-use borrow.Author.Rules.{rules}
 use Rattle.lru_cache.proofs.Steps.{step_use, stepped_hit, stepped_fetch}
 use Rattle.lru_cache.proofs.step.Goals as goal
 

@@ -1,5 +1,4 @@
 -- `lru_cache::Tally::counted` meets its contract. Assumes nothing.
-use borrow.Author.Rules.{rules}
 use Rattle.lru_cache.proofs.Counting.{counted_is}
 use Rattle.lru_cache.proofs.Tally.counted.Goals as goal
 
