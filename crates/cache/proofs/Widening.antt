@@ -1,7 +1,8 @@
 -- A replay by the columns of the frames that can matter is the replay of the whole row. Assumes nothing.
-use Prim.Native.Nat.{ℕ, ◌+◌, ◌≤◌, ◌<◌}
+use Prim.Native.Nat.{ℕ, ◌≤◌, ◌<◌}
 use mathlib.Core.Path.{◌≡◌, refl, sym, ap, ◌∙◌}
 use mathlib.Core.List.{List, ◌++◌}
+use mathlib.Core.Bool.{Bool}
 use native.Mathlib.Omega.{arith}
 use lib.ListN.{length, take, drop, length-map, take-append-drop}
 use lib.Seq.{take_all, take-take, length-take-le}
@@ -23,6 +24,7 @@ use Rattle.trace.specs.declared.Verdict.TheVariants.{Sound, Faulty}
 use Rattle.lru_cache.proofs.Room.{stays_fine}
 use Rattle.replays.specs.Replay.{bad_start, replay_tests, replay_verdict, replay_of, summary_of, replay_answer, frames_after, events_after}
 use Rattle.replays.proofs.Judging.{replay_then, Playable, sound_playable}
+use Rattle.replays.specs.declared.Replayed.{Replayed}
 use Rattle.replays.proofs.Fine.{starts_fine}
 use Rattle.cache.specs.Reach.{reached}
 
@@ -183,3 +185,16 @@ module _ (f : List ℕ) (K : ℕ) (ys : List Frame) (m : ℕ) (es : List ℕ) {n
       (by_verdict (replay_verdict f K P m (length es))
       (λ s. rw (same_verdict, s, events_after, run_is s))
       (λ r q. rw (same_verdict, q, events_after)))
+
+  -- What a replay by the columns of the frames that can matter tells and leaves is what a replay of the row does.
+  pub by_columns : {ps P' E' : List ℕ} {ws W' : List Bool} {r : Replayed} {Z : List Frame}
+      → ps ≡ pages_of Y → ws ≡ marks_of Y
+      → r ≡ replay_answer f K (frames_of ps ws) m (length es)
+      → P' ≡ pages_of (frames_after f K (frames_of ps ws) m (length es))
+      → W' ≡ marks_of (frames_after f K (frames_of ps ws) m (length es))
+      → E' ≡ events_after f K (frames_of ps ws) m es
+      → Z ≡ over (frames_of P' W') ys
+      → (r ≡ replay_answer f K ys m (length es)) × ((Z ≡ frames_after f K ys m (length es)) × (E' ≡ events_after f K ys m es))
+  by_columns {ps = ps} {ws = ws} lp lw a p w e s =
+      let q : frames_of ps ws ≡ frames_of (pages_of Y) (marks_of Y) = rw (lp, lw) in
+      (rw q at a ∙ answer_wide, (rw (p, w, q) at s ∙ frames_wide, rw q at e ∙ events_wide))

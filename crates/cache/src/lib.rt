@@ -1,5 +1,4 @@
-// A replay through a cache that is lent as a row of frames, most recent first. The row's two columns are loaded, the work is done on them, and they are saved:
-// `replay` and `replay_by` are straight, so that their walks, which are proved by hand, have no branch.
+// A replay through a cache that is lent as a row of frames, most recent first. The row's two columns are loaded, the work is done on them, and they are saved.
 #![tactic(auto)]
 
 ghost use Rattle.std.specs.Prelude.{◌≡◌, length};
