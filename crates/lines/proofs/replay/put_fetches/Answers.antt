@@ -1,0 +1,23 @@
+-- `lines::replay::put_fetches` meets its contract. Assumes nothing.
+use borrow.Author.Rules.{rules}
+use Rattle.lines.proofs.Pieces.{pieced_none, pieced_room, pieced_all, pieced_most}
+use Rattle.lines.proofs.Rows.{row_more}
+use Rattle.lines.proofs.replay.put_fetches.Goals as goal
+
+ruleset laws = (pieced_none, pieced_room, pieced_all, pieced_most, row_more, rules)
+
+pub loop-i-init : goal.loop-i-init
+loop-i-init c =
+    search laws
+
+pub put_fetch-next-requires : goal.put_fetch-next-requires
+put_fetch-next-requires c =
+    search laws
+
+pub loop-i-preserved : goal.loop-i-preserved
+loop-i-preserved c =
+    search laws
+
+pub returns : goal.returns
+returns c =
+    record { put = search laws; upper_bound = search laws }
