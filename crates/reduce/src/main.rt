@@ -2,14 +2,17 @@
 #![tactic(auto)]
 
 use limits::Input;
+use reading::read_full;
+use std::io;
 
-fn main() {
+fn main(rt: HostRuntime) -> io::Result<()> {
     // One byte more than a program takes, so that a longer input is seen to be longer.
     let mut input = [0u8; Input::PLACES + 1];
-    let n = io::read_full(0, &mut input);
+    let n = read_full(&mut rt.stdin(), &mut input)?;
     let mut out = [0u8; Input::PLACES];
     let m = lines::reduce::program(&input[..n], &mut out);
-    if !io::write_all(1, &out[..m]) {
-        io::write_all(2, b"reduce: the output is not written whole\n");
+    if rt.write_all(&out[..m]).is_err() {
+        eprintln!(rt; "reduce: the output is not written whole")?;
     }
+    Ok(())
 }

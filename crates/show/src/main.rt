@@ -1,37 +1,32 @@
 // Reads a trace file from standard input, and writes what `check` answers.
 #![tactic(auto)]
 
+use reading::read_full;
+use std::io;
 use trace::{Checked, Header, Refusal};
 
-fn field(name: &[u8], value: u64) {
-    io::write_all(1, name);
-    io::print_decimal(1, value);
+// A file of more bytes is not looked at.
+const MOST: usize = 65535;
+
+fn accepted(rt: &impl Print, h: Header) -> io::Result<()> {
+    println!(rt;
+        "kind {} filter {} references {} items {}",
+        h.kind, h.filter, h.references, h.items
+    )
 }
 
-fn accepted(h: Header) {
-    field(b"kind ", h.kind);
-    field(b" filter ", h.filter);
-    field(b" references ", h.references);
-    field(b" items ", h.items);
-    io::write_all(1, b"\n");
+fn refused(rt: &impl Print, r: Refusal) -> io::Result<()> {
+    println!(rt; "refused {} trace {} item {}", r.number, r.trace, r.item)
 }
 
-fn refused(r: Refusal) {
-    field(b"refused ", r.number);
-    field(b" trace ", r.trace);
-    field(b" item ", r.item);
-    io::write_all(1, b"\n");
-}
-
-fn main() {
-    let mut buffer = io::large_buffer();
-    let n = io::read_full(0, &mut buffer);
-    if n == 65536 {
-        io::write_all(1, b"over 65535 bytes\n");
-        return;
+fn main(rt: HostRuntime) -> io::Result<()> {
+    let mut buffer = [0u8; MOST + 1];
+    let n = read_full(&mut rt.stdin(), &mut buffer)?;
+    if n > MOST {
+        return println!(rt; "over {MOST} bytes");
     }
     match trace::check(&buffer[..n]) {
-        Checked::Accepted(h) => accepted(h),
-        Checked::Refused(r) => refused(r),
+        Checked::Accepted(h) => accepted(&rt, h),
+        Checked::Refused(r) => refused(&rt, r),
     }
 }
