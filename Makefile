@@ -6,7 +6,7 @@ test:
 
 # The main job: the paper's trace T, whole and reduced both ways, replayed side by side.
 demo:
-	@rt check show reduce replay >/dev/null
+	@examples/programs show reduce replay
 	@examples/demo.sh
 
 # The proved library against the reference, as ratios. Not part of the tests.
@@ -15,7 +15,7 @@ bench:
 	@cargo run --quiet --release --offline --manifest-path rust/Cargo.toml -p bench
 
 fmt:
-	@rt fmt
+	@for crate in crates/*; do (cd $$crate && rt fmt); done
 
 clean:
 	@rm -rf target rust/target

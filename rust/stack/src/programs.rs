@@ -66,7 +66,7 @@ fn program(name: &str) -> Result<PathBuf, String> {
     match path.is_file() {
         true => Ok(path),
         false => Err(format!(
-            "no program at {}: run `rt check reduce replay` first, or set {OVERRIDE} to its folder",
+            "no program at {}: run `examples/programs reduce replay` first, or set {OVERRIDE} to its folder",
             path.display()
         )),
     }
