@@ -20,7 +20,8 @@ MADE = re.compile(r"^(invariant|decreases)-loop|^returns|^μ-|^(room|len|lend|sh
 # lemmas and fields that would fall on the name of their function
 LEMMAS = {"is-item": "is_item_lem", "kind-by": "kind_by_lem", "next-with": "next_with_lem", "cache-least": "cache_least_lem", "cache-most": "cache_most_lem",
           "filter-least": "filter_least_lem", "filter-most": "filter_most_lem", "items-least": "items_least_lem", "items-most": "items_most_lem",
-          "input-least": "input_least_lem", "input-most": "input_most_lem"}
+          "input-least": "input_least_lem", "input-most": "input_most_lem",
+          "items-from": "items_from_lem", "kept-write": "kept_write_lem", "last-place": "last_place_lem", "later-phase": "later_phase_lem"}
 # words of the kit's lists, which a dash joins to another name
 WORDS = {"length", "take", "drop", "map", "append", "set", "get_or", "reverse", "number", "snoc", "replicate"}
 
@@ -55,6 +56,17 @@ def defined(paths):
     return names
 
 
+def functions(paths):
+    """Functions that specs/ defines: what a dash may join."""
+    head = re.compile(r"(?:abbrev|unfoldable) pub (\S+) :")
+    return {m.group(1) for path in paths for line in read(path).split("\n") if (m := head.match(line))}
+
+
+def asked():
+    """Goals, invariants and measures, which Rattle names."""
+    return {m for path in files(".antt") for m in re.findall(r" : (?:goal|tie)\.(?:Need-)?([^\s(){}]+)", read(path))}
+
+
 def snake(name):
     return re.sub(r"(?<=[a-z0-9])([A-Z])(?![A-Z])", lambda m: "_" + (m.group(1).lower() if m.end() < len(name) else m.group(1)), name)
 
@@ -72,14 +84,15 @@ def spellings():
     antt = list(files(".antt"))
     own = defined(antt)
     kit = kit_tokens()
+    made = asked()
     used = collections.Counter()
     for path in antt:
         for line in read(path).split("\n"):
             used.update(TOKEN.findall(code(line)))
-    words = WORDS | {snake(n) for n in defined(p for p in antt if "/specs/" in p)}
+    words = WORDS | {snake(n) for n in functions(p for p in antt if "/specs/" in p)}
     new = {}
     for name in used:
-        if not re.match(r"^[a-zμ]", name) or MADE.match(name):
+        if not re.match(r"^[a-zμ]", name) or MADE.match(name) or name in made:
             continue
         if "-" not in name.strip("-") and not re.search(r"[a-z0-9][A-Z]", name):
             continue

@@ -27,6 +27,6 @@ both_ends {𝓤 = 𝓤} 𝓛 a b c a' b' c' d f =
 module _ {M : Type 1} {𝓤 : Ura M} (𝓛 : Logic 𝓤) (mem : Memory → SProp 𝓤) (run : Routine → Fun 𝓤)
     (κs : Lfts 3) (args : Args replay.signature κs) (r r' : Res replay.signature κs) (e e' : AtExit replay.ended κs) where
   -- The same answer, the same frames and the same events.
-  pub replay-once : ent 𝓤 (sep 𝓤 ((replay.clauses 𝓛 mem run κs args).ensures tt r e) ((replay.clauses 𝓛 mem run κs args).ensures tt r' e'))
+  pub replay_once : ent 𝓤 (sep 𝓤 ((replay.clauses 𝓛 mem run κs args).ensures tt r e) ((replay.clauses 𝓛 mem run κs args).ensures tt r' e'))
       (fact 𝓤 ((r ≡ r') × ((e.1.1.0.now ≡ e'.1.1.0.now) × (e.1.1.1.1.0.now ≡ e'.1.1.1.1.0.now))))
-  replay-once = both_ends 𝓛 _ _ _ _ _ _ _ (λ p q s p' q' s'. (p ∙ sym p', (q ∙ sym q', s ∙ sym s')))
+  replay_once = both_ends 𝓛 _ _ _ _ _ _ _ (λ p q s p' q' s'. (p ∙ sym p', (q ∙ sym q', s ∙ sym s')))

@@ -50,9 +50,9 @@ reach_most n = split (ltb n cache_most) (λ e. rw e (let h = ltb-true n cache_mo
 
 module _ (K : ℕ) (most : K ≤ cache_most) (P : List ℕ) (m : ℕ) where
   -- A start that is longer than any cache is judged by what can matter.
-  start-long : cache_most ≤ length P → bad_start K (take cache_most P) m ≡ bad_start K P m
+  start_long : cache_most ≤ length P → bad_start K (take cache_most P) m ≡ bad_start K P m
   unfolding bad_start
-  start-long h =
+  start_long h =
       let l : length (take cache_most P) ≡ cache_most = length-take-le cache_most P h in
       split (ltb K m)
       (λ e. rw e)
@@ -65,7 +65,7 @@ module _ (K : ℕ) (most : K ≤ cache_most) (P : List ℕ) (m : ℕ) where
   start_wide =
       split (ltb (length P) cache_most)
       (λ e. rw (← reach_short (length P) (ltb-true (length P) cache_most e), take_all (length P) P (omega arith)))
-      (λ e. let h = ltb-false (length P) cache_most e in rw (← reach_long (length P) h) (start-long h))
+      (λ e. let h = ltb-false (length P) cache_most e in rw (← reach_long (length P) h) (start_long h))
 
 module _ (f : List ℕ) (K : ℕ) (P : List ℕ) (m room : ℕ) where
   tests_wide : first (replay_tests f K (take (reached (length P)) P) m room) ≡ first (replay_tests f K P m room)
@@ -83,9 +83,9 @@ by_verdict Sound s t = s refl
 by_verdict (Faulty r) s t = t r refl
 
 -- A row over the front of a row, of which only the first n places were lent.
-over-within : {A : Type 0} (s l : List A) (n : ℕ) → length s ≤ n → n ≤ length l → over (over s (take n l)) l ≡ over s l
+over_within : {A : Type 0} (s l : List A) (n : ℕ) → length s ≤ n → n ≤ length l → over (over s (take n l)) l ≡ over s l
 unfolding over
-over-within {A = A} s l n h g =
+over_within {A = A} s l n h g =
     let t = take n l in
     let a : length t ≡ n = length-take-le n l g in
     let b : length (over s t) ≡ n = length_over s t (omega arith) ∙ a in
@@ -95,9 +95,9 @@ over-within {A = A} s l n h g =
     ∙ sets_over s l (omega arith)
 
 -- A replay leaves no more than K frames, and the row as long as it was.
-final-few : (f : List ℕ) (K : ℕ) (fs : List Frame) (m room : ℕ) → Playable f K (pages_of fs) m room → length (replay_of f K fs m).final ≤ K
+final_few : (f : List ℕ) (K : ℕ) (fs : List Frame) (m room : ℕ) → Playable f K (pages_of fs) m room → length (replay_of f K fs m).final ≤ K
 unfolding replay_of
-final-few f K fs m room a = (stays_fine K a.least (take m fs) (items f) (starts_fine K fs m a.start_is)).room
+final_few f K fs m room a = (stays_fine K a.least (take m fs) (items f) (starts_fine K fs m a.start_is)).room
 
 pub after-length : (f : List ℕ) (K : ℕ) (fs : List Frame) (m room : ℕ) → length (frames_after f K fs m room) ≡ length fs
 unfolding frames_after
@@ -105,7 +105,7 @@ after-length f K fs m room =
     by_verdict (replay_verdict f K (pages_of fs) m room)
     (λ s.
     let a = sound_playable f K (pages_of fs) m room s in
-    rw (s, frames_after) (length_over (replay_of f K fs m).final fs (omega (arith, final-few f K fs m room a, a.places, length-map fs (λ (g : Frame). g.page)))))
+    rw (s, frames_after) (length_over (replay_of f K fs m).final fs (omega (arith, final_few f K fs m room a, a.places, length-map fs (λ (g : Frame). g.page)))))
     (λ r q. rw (q, frames_after))
 
 module _ (f : List ℕ) (K : ℕ) (ys : List Frame) (m : ℕ) (es : List ℕ) {n : ℕ} (h : n ≡ reached (length ys)) where
@@ -118,11 +118,11 @@ module _ (f : List ℕ) (K : ℕ) (ys : List Frame) (m : ℕ) (es : List ℕ) {n
   long : length P ≡ length ys
   long = length-map ys (λ (g : Frame). g.page)
 
-  pages-are : pages_of Y ≡ take (reached (length P)) P
-  pages-are = pages-take n ys ∙ rw (h, long)
+  pages_are : pages_of Y ≡ take (reached (length P)) P
+  pages_are = pages-take n ys ∙ rw (h, long)
 
   same_verdict : replay_verdict f K (pages_of Y) m (length es) ≡ replay_verdict f K P m (length es)
-  same_verdict = rw pages-are (verdict_wide f K P m (length es))
+  same_verdict = rw pages_are (verdict_wide f K P m (length es))
 
   whole : frames_of (pages_of Y) (marks_of Y) ≡ Y
   whole = frames-whole Y
@@ -150,7 +150,7 @@ module _ (f : List ℕ) (K : ℕ) (ys : List Frame) (m : ℕ) (es : List ℕ) {n
     run_is = rw start_is
 
     few : length (replay_of f K ys m).final ≤ n
-    few = omega (arith, final-few f K ys m (length es) able, reaches)
+    few = omega (arith, final_few f K ys m (length es) able, reaches)
 
   pub answer_wide : replay_answer f K (frames_of (pages_of Y) (marks_of Y)) m (length es) ≡ replay_answer f K ys m (length es)
   unfolding replay_answer summary_of replay_of
@@ -172,7 +172,7 @@ module _ (f : List ℕ) (K : ℕ) (ys : List Frame) (m : ℕ) (es : List ℕ) {n
   left =
       rw whole
       (by_verdict (replay_verdict f K P m (length es))
-      (λ s. rw (same_verdict, s, frames_after, run_is s) (over-within (replay_of f K ys m).final ys n (few s) within))
+      (λ s. rw (same_verdict, s, frames_after, run_is s) (over_within (replay_of f K ys m).final ys n (few s) within))
       (λ r q. rw (same_verdict, q, frames_after) over_self))
 
   pub frames_wide : over (frames_of (pages_of X) (marks_of X)) ys ≡ frames_after f K ys m (length es)

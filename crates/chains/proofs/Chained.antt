@@ -10,21 +10,21 @@ use lib.Dec.{eqb, ltb}
 use borrow.Author.Tests.{ltb-true, ltb-false, eq-eqb, ne_eqb, eqb-false}
 use Rattle.pages.proofs.Choice.{split, same}
 use Rattle.chains.specs.Chains.{newest, Chained, heads_with, next_with}
-use Rattle.chains.proofs.Newest.{newest-most, newest-at, newest_same, newest_skips}
+use Rattle.chains.proofs.Newest.{newest_most, newest-at, newest_same, newest_skips}
 
 -- Nothing in a row is above base.
 pub record Low (base : ℕ) (row : List ℕ) : Type 0 where
   pub low : (v : ℕ) → get_or row v 0 ≤ base
 
 -- No place: the heads may say anything up to base.
-pub chained-none : (m : ℕ → ℕ) {base : ℕ} {heads : List ℕ} (next : List ℕ) → Low base heads → Chained m 0 base heads next
+pub chained_none : (m : ℕ → ℕ) {base : ℕ} {heads : List ℕ} (next : List ℕ) → Low base heads → Chained m 0 base heads next
 unfolding newest
-chained-none m next w = record { heads_are = λ v. omega (arith, w.low v); next-are = λ j o. absurd (omega arith) }
+chained_none m next w = record { heads_are = λ v. omega (arith, w.low v); next_are = λ j o. absurd (omega arith) }
 
 module _ {m : ℕ → ℕ} {n base : ℕ} {heads next : List ℕ} (c : Chained m n base heads next) where
   -- What the heads say is no more than base and the number of places.
   pub chained_low : Low (base + n) heads
-  chained_low = record { low = λ v. omega (arith, c.heads_are v, newest-most m v n) }
+  chained_low = record { low = λ v. omega (arith, c.heads_are v, newest_most m v n) }
 
   -- A place more, in front of bucket v.
   module _ (m' : ℕ → ℕ) (v : ℕ) (before : (j : ℕ) → j < n → m' j ≡ m j) (here : m' n ≡ v) (bucket : v < length heads) (room : n < length next) where
@@ -42,10 +42,10 @@ module _ {m : ℕ → ℕ} {n base : ℕ} {heads next : List ℕ} (c : Chained m
         (λ t.
         let d = eqb-false j n t in
         let l : j < n = omega arith in
-        rw (get_or-set_other next n j (get_or heads v 0 - base) 0 d, before j l, newest_same m' m (m j) j (λ i h. before i (omega arith))) (c.next-are j l))
+        rw (get_or-set_other next n j (get_or heads v 0 - base) 0 d, before j l, newest_same m' m (m j) j (λ i h. before i (omega arith))) (c.next_are j l))
 
     pub chained_more : Chained m' (suc n) base (heads_with base n v heads) (next_with base n v heads next)
-    chained_more = record { heads_are = heads_more; next-are = next_more }
+    chained_more = record { heads_are = heads_more; next_are = next_more }
 
 -- The link that `push` stores at place c is what it read of the head.
 pub next_with_lem : (base c v : ℕ) (heads next : List ℕ) {e : ℕ} → e ≡ get_or heads v 0 - base → set next c e ≡ next_with base c v heads next
@@ -80,7 +80,7 @@ module _ {key m : ℕ → ℕ} {n k v : ℕ} where
 
       -- No place beyond it has the key.
       pub seeking_most : newest key k n ≤ e
-      seeking_most = rw skips (newest-most key k e)
+      seeking_most = rw skips (newest_most key k e)
 
       -- The chain is passed: no place has the key.
       pub seeking_end : e ≤ 0 → newest key k n ≡ 0
@@ -104,13 +104,13 @@ module _ {key m : ℕ → ℕ} {n k v : ℕ} where
         seeking_more q c z = record {
           from = e - 1;
           within = omega (arith, seeking_within some);
-          here = z ∙ c.next-are (e - 1) (seeking_within some) ∙ rw (at_e some).0;
+          here = z ∙ c.next_are (e - 1) (seeking_within some) ∙ rw (at_e some).0;
           rest = turn ∙ rw (ne_eqb (key (e - 1)) k q);
         }
 
     -- The place before it in the chain is smaller, so a search ends.
     pub seeking_less : 0 < e → {base : ℕ} {heads next : List ℕ} → Chained m n base heads next → {d : ℕ} → d ≡ get_or next (e - 1) 0 → d < e
-    seeking_less some c z = omega (arith, z, c.next-are (e - 1) (seeking_within some), newest-most m (m (e - 1)) (e - 1))
+    seeking_less some c z = omega (arith, z, c.next_are (e - 1) (seeking_within some), newest_most m (m (e - 1)) (e - 1))
 
 -- ---- heads that are cleared
 

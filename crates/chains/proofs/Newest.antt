@@ -11,16 +11,16 @@ use borrow.Author.Tests.{ltb-false, lt-ltb, le-ltb, eqb-false}
 use Rattle.pages.specs.Pages.{has, place, Distinct}
 use Rattle.pages.proofs.Choice.{split, same, eqb_sym}
 use Rattle.pages.proofs.Added.{has_join}
-use Rattle.pages.proofs.Table.{has-place, place-most, place_alone}
+use Rattle.pages.proofs.Table.{has-place, place_most, place_alone}
 use Rattle.chains.specs.Chains.{at, newest}
 
 module _ (m : ℕ → ℕ) (v : ℕ) where
   -- It is one of the first i.
-  pub newest-most : (i : ℕ) → newest m v i ≤ i
+  pub newest_most : (i : ℕ) → newest m v i ≤ i
   unfolding newest
-  newest-most zero = omega arith
-  newest-most (suc j) =
-      let h = newest-most j in
+  newest_most zero = omega arith
+  newest_most (suc j) =
+      let h = newest_most j in
       split (eqb (m j) v) (λ e. rw e (omega arith)) (λ e. rw e (omega arith))
 
   -- The mark stands there.
@@ -81,10 +81,10 @@ module _ (k : ℕ) (l : List ℕ) where
   newest-has = ap (has k) (sym (take-length l)) ∙ has-newest k l (length l) (omega arith)
 
   -- A number that has no last place has the list's end.
-  pub newest-none : newest (at l) k (length l) ≡ 0 → length l ≡ place k l
-  newest-none z =
+  pub newest_none : newest (at l) k (length l) ≡ 0 → length l ≡ place k l
+  newest_none z =
       let n : ltb (place k l) (length l) ≡ false = sym (has-place k l) ∙ newest-has ∙ rw z (le-ltb 0 0 (omega arith)) in
-      omega (arith, ltb-false (place k l) (length l) n, place-most k l)
+      omega (arith, ltb-false (place k l) (length l) n, place_most k l)
 
   -- In a list of distinct numbers its last place is its place.
   pub newest-place : Distinct l → (j : ℕ) → newest (at l) k (length l) ≡ suc j → j ≡ place k l

@@ -27,5 +27,5 @@ push_heads_once κs args x y s t p q = p.0 ∙ sym q.0
 pub push_next_once : OneBuffer push.ps push.r push_post (λ κs s. s.1.1.0.now)
 push_next_once κs args x y s t p q = p.1 ∙ sym q.1
 
-pub clear-once : OneBuffer clear.ps clear.r clear_post (λ κs s. s.0.now)
-clear-once κs args x y s t p q = p ∙ sym q
+pub clear_once : OneBuffer clear.ps clear.r clear_post (λ κs s. s.0.now)
+clear_once κs args x y s t p q = p ∙ sym q

@@ -14,7 +14,7 @@ newest m v (suc j) = cond (eqb (m j) v) (suc j) (newest m v j)
 -- and next has, for each place, the last before it in its bucket. Of a bucket that has none heads may say anything up to base.
 pub record Chained (m : ℕ → ℕ) (n base : ℕ) (heads next : List ℕ) : Type 0 where
   pub heads_are : (v : ℕ) → get_or heads v 0 - base ≡ newest m v n
-  pub next-are : (j : ℕ) → j < n → get_or next j 0 ≡ newest m (m j) j
+  pub next_are : (j : ℕ) → j < n → get_or next j 0 ≡ newest m (m j) j
 
 -- ---- a place more
 

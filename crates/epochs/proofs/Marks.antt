@@ -80,14 +80,14 @@ marked-settled m seen owed (i ∷ e) =
     (λ k. rw k (marked-settled m s (cons_if i.written i.page owed) e))
 
 -- An item that is not the last of its page, or whose page is not owed a write, stays as it is.
-settle-stays : (owed : List ℕ) (i : Item) (rest : List Item) → is_last i rest && has i.page owed ≡ false → settle owed i rest ≡ i
+settle_stays : (owed : List ℕ) (i : Item) (rest : List Item) → is_last i rest && has i.page owed ≡ false → settle owed i rest ≡ i
 unfolding settle
-settle-stays owed i rest h =
+settle_stays owed i rest h =
     let w : i.written || (is_last i rest && has i.page owed) ≡ i.written = rw (h, or-false) in
     λ j. record { page = i.page; time = i.time; written = w j }
 
-settle-none : (owed : List ℕ) (i : Item) (rest : List Item) → has i.page owed ≡ false → settle owed i rest ≡ i
-settle-none owed i rest h = settle-stays owed i rest (rw h (and_nothing (is_last i rest)))
+settle_none : (owed : List ℕ) (i : Item) (rest : List Item) → has i.page owed ≡ false → settle owed i rest ≡ i
+settle_none owed i rest h = settle_stays owed i rest (rw h (and_nothing (is_last i rest)))
 
 later_not : (a b c : Bool) → not b && c ≡ false → not (a || b) && c ≡ false
 later_not true b c h = refl
@@ -102,13 +102,13 @@ settled_front owed (i ∷ a) c f =
     let p = i.page in
     let w = later_not (has p (pages a)) (has p (pages c)) (has p owed) (f p (rw eqb_self)) in
     let joined : has p (pages (a ++ c)) ≡ has p (pages a) || has p (pages c) = rw (pages_join a c) (has_join p (pages a) (pages c)) in
-    rw (settle-stays owed i (a ++ c) (rw joined w), settled_front owed a c (λ q h. f q (rw (h, or-true))))
+    rw (settle_stays owed i (a ++ c) (rw joined w), settled_front owed a c (λ q h. f q (rw (h, or-true))))
 
 -- A row of whose pages none is owed a write stays as it is.
-settled-none : (owed : List ℕ) (u : List Item) → ((p : ℕ) → has p owed ≡ false) → settled owed u ≡ u
+settled_none : (owed : List ℕ) (u : List Item) → ((p : ℕ) → has p owed ≡ false) → settled owed u ≡ u
 unfolding settled
-settled-none owed [] f = refl
-settled-none owed (i ∷ u) f = rw (settle-none owed i u (f i.page), settled-none owed u f)
+settled_none owed [] f = refl
+settled_none owed (i ∷ u) f = rw (settle_none owed i u (f i.page), settled_none owed u f)
 
 -- ---- the client's sentence
 
@@ -134,7 +134,7 @@ lost_drops m p seen owed (i ∷ e) =
 -- The last kept item of a page in an epoch becomes a write if any dropped item of that page in that epoch was one.
 pub lasts_become_writes : LastsBecomeWrites
 unfolding has
-lasts_become_writes m e = record { owed = lost m [] [] e; owed-are = λ p. lost_drops m p [] [] e; lasts-written = marked-settled m [] [] e }
+lasts_become_writes m e = record { owed = lost m [] [] e; owed_are = λ p. lost_drops m p [] [] e; lasts-written = marked-settled m [] [] e }
 
 -- ---- pages and times are as before
 
@@ -169,7 +169,7 @@ unfolding flat
 all_as_kept m [] n = refl
 all_as_kept m (e ∷ es) n =
     let r = lasts_become_writes m e in
-    rw (r.lasts-written, settled-none r.owed (kept m [] e) (λ p. r.owed-are p ∙ n.0 p), all_as_kept m es n.1)
+    rw (r.lasts-written, settled_none r.owed (kept m [] e) (λ p. r.owed_are p ∙ n.0 p), all_as_kept m es n.1)
 
 -- Where no write is dropped nothing is marked.
 pub none_dropped_no_marks : NoneDroppedNoMarks
@@ -201,14 +201,14 @@ no_writes_no_marks m B t n = none_dropped_no_marks m B t (no_writes_dropped m (e
 -- ---- some and none
 
 -- A trace with items keeps its first.
-pub keeps-some : KeepsSome
+pub keeps_some : KeepsSome
 unfolding has add cut flat epochs marked reduce
-keeps-some m B i t =
+keeps_some m B i t =
     let k = first-kept m [] i (cut B (i.page ∷ []) t).here refl in
-    let n = settle-none [] i (cut B (i.page ∷ []) t).here refl in
+    let n = settle_none [] i (cut B (i.page ∷ []) t).here refl in
     split (leb 1 B) (λ e. rw (e, cut, k, n) (_, refl)) (λ e. rw (e, cut, k, n) (_, refl))
 
 -- A trace with none keeps none.
-pub keeps-none : KeepsNone
+pub keeps_none : KeepsNone
 unfolding cut flat epochs marked reduce
-keeps-none m B = refl
+keeps_none m B = refl

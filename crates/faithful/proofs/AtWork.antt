@@ -17,7 +17,7 @@ use Rattle.trace.specs.Check.{is_field, is_item, items_verdict, verdict, answer,
 use Rattle.trace.specs.Promises.{IsFile}
 use Rattle.trace.specs.Examples.{T, whole, file_T}
 use Rattle.trace.proofs.Accepted.{is_determined}
-use Rattle.trace.proofs.Octets.{octets-file}
+use Rattle.trace.proofs.Octets.{octets_file}
 use Rattle.epochs.specs.Epochs.{pages, cut, epochs}
 use Rattle.epochs.specs.Keep.{is_first, is_last, phase, keeps, settle, marked, reduce}
 use Rattle.slim.specs.Reduce.{mode_of, kept_of, reduced_header, reduced_file}
@@ -43,8 +43,8 @@ recording : IsRecording T
 unfolding checked answer verdict first ◌then◌ items_verdict is_item is_field allowed
     encode encode_header encode_items encode_item tag_of field bytes header items items_of item number_at number
 recording =
-    let a = (is_determined file_T (whole 12) (octets-file (whole 12) T) refl).keeps_rules in
-    record { items-fit = a.items-fit; rising = a.rising }
+    let a = (is_determined file_T (whole 12) (octets_file (whole 12) T) refl).keeps_rules in
+    record { items_fit = a.items_fit; rising = a.rising }
 
 -- It is cut into three parts, each of which fits a file.
 cut_in_three : IsCut T portions
@@ -103,5 +103,5 @@ pub like_T : SameReplay (joined right_first) file_T 3 lent_cache 3 (replicate 48
 unfolding files checked answer verdict first ◌then◌ items_verdict is_item is_field allowed
     encode encode_header encode_items encode_item tag_of field bytes header items items_of item number_at number
 like_T =
-    let f : IsFile file_T = record { bytes = octets-file (whole 12) T; accepted = refl } in
+    let f : IsFile file_T = record { bytes = octets_file (whole 12) T; accepted = refl } in
     ((like_the_whole_file file_T f refl portions cut_in_three right_first refl).1 3 lent_cache 3 cache_of_three (replicate 48 7)).1 (omega arith)

@@ -17,8 +17,8 @@ use Rattle.trace.specs.declared.Item.{Item}
 use Rattle.pages.proofs.Rows.{all_parts}
 use Rattle.trace.proofs.Allowed.{facts_allowed}
 use Rattle.trace.proofs.Append.{rising_parts}
-use Rattle.trace.proofs.Accepted.{accepted-header, accepted-count, accepted_facts, accepted-rising}
-use Rattle.trace.proofs.Octets.{octets-file}
+use Rattle.trace.proofs.Accepted.{accepted_header, accepted_count, accepted_facts, accepted_rising}
+use Rattle.trace.proofs.Octets.{octets_file}
 use Rattle.trace.proofs.RoundTrip.{reads_back, is_taken}
 use Rattle.epochs.specs.declared.Mode.{Mode}
 use Rattle.epochs.specs.declared.Mode.TheVariants.{FastSlim, Demand}
@@ -31,8 +31,8 @@ use Rattle.faithful.specs.Parts.{Part, recorded}
 use Rattle.faithful.specs.Demand3.{Portion, IsPortion, IsCut, short, IsCache}
 use Rattle.faithful.specs.Corollaries.{mode_number, whole_file, portion_of, FitsAFile, CutAnywhere, AnyBracketing}
 use Rattle.faithful.specs.Corollaries.{second_transfers, told_transfers, SecondTransfersAlike, SameReplay, LikeTheWholeFile}
-use Rattle.faithful.proofs.Portions.{items_at_most, references-are}
-use Rattle.faithful.proofs.Files.{taken, replays_as, recording_is, are-files, rises, join_alike, faithful}
+use Rattle.faithful.proofs.Portions.{items_at_most, references_are}
+use Rattle.faithful.proofs.Files.{taken, replays_as, recording_is, are_files, rises, join_alike, faithful}
 
 -- ---- cut anywhere
 
@@ -46,9 +46,9 @@ whole-allowed u f r l = record {
     whole = λ z. (refl, refl);
     reduced = λ n. absurd (n refl);
   });
-  references-fit = omega arith;
+  references_fit = omega arith;
   counted = refl;
-  items-fit = f;
+  items_fit = f;
   rising = r;
 }
 
@@ -72,9 +72,9 @@ module _ (p : Part) (f : ItemsFit p.items) (r : Rising 0 p.items) (a : FitsAFile
   part_portion =
       let w = whole (length p.items) in
       let t = is_taken w p.items says in
-      let h = accepted-header (whole_file p.items) w t in
+      let h = accepted_header (whole_file p.items) w t in
       record {
-        is_file = record { bytes = octets-file w p.items; accepted = rw h t };
+        is_file = record { bytes = octets_file w p.items; accepted = rw h t };
         kind_0 = rw h;
         either_mode = mode_is p.mode;
         least = a.least;
@@ -86,9 +86,9 @@ pub cut_anywhere : CutAnywhere
 unfolding flat recorded
 cut_anywhere [] r a = record { portions = tt; consecutive = refl }
 cut_anywhere (p ∷ ps) r a =
-    let (f, g) = all_parts ItemFits p.items (recorded ps) r.items-fit in
+    let (f, g) = all_parts ItemFits p.items (recorded ps) r.items_fit in
     let (u, v) = rising_parts 0 p.items (recorded ps) r.rising in
-    let c = cut_anywhere ps (record { items-fit = g; rising = v }) a.1 in
+    let c = cut_anywhere ps (record { items_fit = g; rising = v }) a.1 in
     record { portions = (part_portion p f u a.0, c.portions); consecutive = rw (part-items p f u a.0, c.consecutive) }
 
 -- ---- any bracketing
@@ -97,7 +97,7 @@ cut_anywhere (p ∷ ps) r a =
 pub any_bracketing : AnyBracketing
 any_bracketing t r ps c i j p o =
     let up = r.rising in
-    let (w, e) = joins_associate i j (p.in_order ∙ sym o) (are-files t up ps c i p.in_order) (rises t up ps c i p.in_order) p.within in
+    let (w, e) = joins_associate i j (p.in_order ∙ sym o) (are_files t up ps c i p.in_order) (rises t up ps c i p.in_order) p.within in
     (record { in_order = o; within = w }, e)
 
 -- ---- second transfers
@@ -123,24 +123,24 @@ second_transfers_alike t r ps c j o K frames resident k events room =
 
 module _ (f : List ℕ) (a : IsFile f) (z : (header f).kind ≡ 0) (ps : List Portion) (c : IsCut (items f) ps) (j : Tree) (o : files j ≡ map short ps) where
   up : Rising 0 (items f)
-  up = accepted-rising f (header f) a.accepted
+  up = accepted_rising f (header f) a.accepted
 
   -- Neither the items nor the references of the join are more than the file's items, and those are within the limits.
   sums : ((header_of_all (files j)).items ≤ (header f).items) × ((header_of_all (files j)).references ≡ (header f).items) × ((header f).items ≤ items_most)
   sums =
-      let count = accepted-count f (header f) a.accepted in
+      let count = accepted_count f (header f) a.accepted in
       let all = ap length (recording_is (items f) up ps c j o) in
       let few = items_at_most ps c.portions in
-      let refs = references-are ps c.portions in
+      let refs = references_are ps c.portions in
       let most = (accepted_facts f (header f) a.accepted).few in
       rw o (omega arith, omega arith, most)
 
   -- So every join is within the limits.
   within : Within j
-  within = let s = sums in sums_enough j (are-files (items f) up ps c j o) (rises (items f) up ps c j o) (omega arith) (omega arith)
+  within = let s = sums in sums_enough j (are_files (items f) up ps c j o) (rises (items f) up ps c j o) (omega arith) (omega arith)
 
   fewer : (header (joined j)).items ≤ (header f).items
-  fewer = rw (joins_trees j (are-files (items f) up ps c j o) (rises (items f) up ps c j o) within).header_is sums.0
+  fewer = rw (joins_trees j (are_files (items f) up ps c j o) (rises (items f) up ps c j o) within).header_is sums.0
 
   -- With room for the file the join leaves what the file leaves.
   same_replay : (K : ℕ) (frames : List Frame) (resident : ℕ) → IsCache ps K frames resident → (events : List ℕ) → 4 * (header f).items ≤ length events

@@ -47,24 +47,24 @@ has-owe q p true L = refl
 has-owe q p false L = refl
 
 module _ (L : List ℕ) (i : Item) (w : List Item) (a b : List Frame) (o : Owed L (i ∷ w) a b) where
-  owed-here : dirty i.page a ≡ dirty i.page b || (has i.page L && true)
+  owed_here : dirty i.page a ≡ dirty i.page b || (has i.page L && true)
   unfolding has pages
-  owed-here = rw (eqb_self i.page) at (o i.page)
+  owed_here = rw (eqb_self i.page) at (o i.page)
 
   -- After an item that both have, of a page in both lists,
   pub owed_again : Owed L w (touch i a ∷ taken i.page a) (touch (settle L i w) b ∷ taken i.page b)
   unfolding has pages dirty is_last settle
   owed_again q =
       split (eqb q i.page)
-      (λ e. rw (e, same q i.page e) (pays (dirty i.page a) (dirty i.page b) (has i.page L) i.written (has i.page (pages w)) owed-here))
+      (λ e. rw (e, same q i.page e) (pays (dirty i.page a) (dirty i.page b) (has i.page L) i.written (has i.page (pages w)) owed_here))
       (λ e. rw (e, dirty-taken i.page q e a, dirty-taken i.page q e b) (rw e at (o q)))
 
   -- or of a page in neither, whose frame is taken from the rest r of both;
-  pub owed-first : (r : List Frame) → has i.page (pages_of a) ≡ false → has i.page (pages_of b) ≡ false → Owed L w (touch i r ∷ a) (touch (settle L i w) r ∷ b)
+  pub owed_first : (r : List Frame) → has i.page (pages_of a) ≡ false → has i.page (pages_of b) ≡ false → Owed L w (touch i r ∷ a) (touch (settle L i w) r ∷ b)
   unfolding has pages dirty is_last settle
-  owed-first r na nb q =
+  owed_first r na nb q =
       split (eqb q i.page)
-      (λ e. let n : has i.page L && true ≡ false = sym (rw (dirty_absent i.page a na, dirty_absent i.page b nb) at owed-here) in
+      (λ e. let n : has i.page L && true ≡ false = sym (rw (dirty_absent i.page a na, dirty_absent i.page b nb) at owed_here) in
       rw (e, same q i.page e) (pays (dirty i.page r) (dirty i.page r) (has i.page L) i.written (has i.page (pages w)) (rw (n, or-false))))
       (λ e. rw e (rw e at (o q)))
 
@@ -74,5 +74,5 @@ module _ (L : List ℕ) (i : Item) (w : List Item) (a b : List Frame) (o : Owed 
   owed_dropped c q =
       rw (has-owe q i.page i.written L)
       (split (eqb q i.page)
-      (λ e. rw (e, same q i.page e, c) (lends (dirty i.page a) (dirty i.page b) (has i.page L) i.written owed-here))
+      (λ e. rw (e, same q i.page e, c) (lends (dirty i.page a) (dirty i.page b) (has i.page L) i.written owed_here))
       (λ e. rw (e, dirty-taken i.page q e a, and-false) (rw e at (o q))))

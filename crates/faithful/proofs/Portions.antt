@@ -12,18 +12,18 @@ use Rattle.trace.specs.Rules.{Rising}
 use Rattle.trace.specs.Promises.{IsFile}
 use Rattle.trace.specs.declared.Item.{Item}
 use Rattle.trace.specs.declared.Verdict.TheVariants.{Sound}
-use Rattle.trace.proofs.Accepted.{accepted-header, accepted-count, accepted_facts}
-use Rattle.trace.proofs.Append.{rising-earlier}
-use Rattle.trace.proofs.Checking.{accepted-verdict}
-use Rattle.trace.proofs.Octets.{octets-file}
+use Rattle.trace.proofs.Accepted.{accepted_header, accepted_count, accepted_facts}
+use Rattle.trace.proofs.Append.{rising_earlier}
+use Rattle.trace.proofs.Checking.{accepted_verdict}
+use Rattle.trace.proofs.Octets.{octets_file}
 use Rattle.epochs.specs.Epochs.{epochs}
 use Rattle.epochs.specs.Keep.{keeps, settle, owe, marked, reduce}
 use Rattle.epochs.specs.declared.Mode.{Mode}
 use Rattle.epochs.proofs.Greedy.{epochs_trace}
 use Rattle.epochs.proofs.Order.{reduce-length}
 use Rattle.slim.specs.Reduce.{mode_of, kept_of, reduced_header, reduced_file, reduce_verdict}
-use Rattle.slim.proofs.Reducing.{reducible_sound, reduce-written, reduce-file}
-use Rattle.slim.proofs.Accepted.{writes-reduced}
+use Rattle.slim.proofs.Reducing.{reducible_sound, reduce-written, reduce_file}
+use Rattle.slim.proofs.Accepted.{writes_reduced}
 use Rattle.join.specs.Trees.{items_of_all, largest, total, header_of_all}
 use Rattle.faithful.specs.Parts.{Part, recorded, reduced, Sizes}
 use Rattle.faithful.specs.Demand3.{Portion, IsPortion, short, AllAtMost, Reduces}
@@ -38,7 +38,7 @@ module _ (p : Portion) (a : IsPortion p) where
   -- With room for the file its reduction is not refused.
   reducible : (room : ℕ) → length p.file ≤ room → reduce_verdict p.file p.mode p.size room ≡ Sound
   reducible room fits = reducible_sound p.file p.mode p.size room (record {
-    file_sound = accepted-verdict p.file (header p.file) a.is_file.accepted;
+    file_sound = accepted_verdict p.file (header p.file) a.is_file.accepted;
     mode_is = a.either_mode;
     least = a.least;
     most = a.most;
@@ -50,22 +50,22 @@ module _ (p : Portion) (a : IsPortion p) where
   unfolding short
   reduces = record {
     answers = λ out fits. sym (reduce-written p.file p.mode p.size out refl (reducible (length out) fits) refl);
-    writes = λ out fits. sym (reduce-file p.file p.mode p.size out refl (reducible (length out) fits) refl);
+    writes = λ out fits. sym (reduce_file p.file p.mode p.size out refl (reducible (length out) fits) refl);
   }
 
   -- What is written is a file, with the reduced header and the items that are kept.
   short_is : IsFile (short p) × (header (short p) ≡ reduced_header p.file p.mode p.size) × (items (short p) ≡ reduce (mode_of p.mode) p.size (items p.file))
   unfolding short reduced_file
   short_is =
-      let w = writes-reduced p.file p.mode p.size (length p.file) a.is_file.bytes (reducible (length p.file) (omega arith)) in
-      let h = accepted-header (short p) (reduced_header p.file p.mode p.size) w.accepted in
-      (record { bytes = octets-file (reduced_header p.file p.mode p.size) _; accepted = rw h w.accepted }, h, w.items-are)
+      let w = writes_reduced p.file p.mode p.size (length p.file) a.is_file.bytes (reducible (length p.file) (omega arith)) in
+      let h = accepted_header (short p) (reduced_header p.file p.mode p.size) w.accepted in
+      (record { bytes = octets_file (reduced_header p.file p.mode p.size) _; accepted = rw h w.accepted }, h, w.items_are)
 
 -- ---- all of them
 
-pub all-reduce : (ps : List Portion) → All IsPortion ps → All Reduces ps
-all-reduce [] a = tt
-all-reduce (p ∷ ps) a = (reduces p a.0, all-reduce ps a.1)
+pub all_reduce : (ps : List Portion) → All IsPortion ps → All Reduces ps
+all_reduce [] a = tt
+all_reduce (p ∷ ps) a = (reduces p a.0, all_reduce ps a.1)
 
 pub short-files : (ps : List Portion) → All IsPortion ps → All IsFile (map short ps)
 short-files [] a = tt
@@ -124,11 +124,11 @@ parts_left (p ∷ ps) = left_append (reduce_left p.mode p.size p.items) (parts_l
 left_rising : {u t : List Item} → Left u t → (from : ℕ) → Rising from t → Rising from u
 left_rising none from r = tt
 left_rising (keep {i} e p) from r = rw e (r.0, left_rising p i.time r.1)
-left_rising (skip {t = t} p) from r = left_rising p from (rising-earlier r.0 t r.1)
+left_rising (skip {t = t} p) from r = left_rising p from (rising_earlier r.0 t r.1)
 
 -- so the times of parts reduced do not fall.
-pub reduced-rising : (ps : List Part) → Rising 0 (recorded ps) → Rising 0 (reduced ps)
-reduced-rising ps r = left_rising (parts_left ps) 0 r
+pub reduced_rising : (ps : List Part) → Rising 0 (recorded ps) → Rising 0 (reduced ps)
+reduced_rising ps r = left_rising (parts_left ps) 0 r
 
 -- ---- filters
 
@@ -153,11 +153,11 @@ items_at_most (p ∷ ps) a =
     rw ((short_is p a.0).1, length-append) (omega (arith, reduce-length (mode_of p.mode) p.size (items p.file), items_at_most ps a.1))
 
 -- and as many references.
-pub references-are : (ps : List Portion) → All IsPortion ps → (header_of_all (map short ps)).references ≡ length (recorded (map part ps))
+pub references_are : (ps : List Portion) → All IsPortion ps → (header_of_all (map short ps)).references ≡ length (recorded (map part ps))
 unfolding header_of_all total reduced_header flat part recorded
-references-are [] a = refl
-references-are (p ∷ ps) a =
+references_are [] a = refl
+references_are (p ∷ ps) a =
     let f = p.file in
     let e = a.0.is_file.accepted in
     let (_, same) = (accepted_facts f (header f) e).whole a.0.kind_0 in
-    rw ((short_is p a.0).1, length-append) (omega (arith, accepted-count f (header f) e, references-are ps a.1))
+    rw ((short_is p a.0).1, length-append) (omega (arith, accepted_count f (header f) e, references_are ps a.1))

@@ -10,17 +10,17 @@ use borrow.Author.Tests.{eqb-false, ltb-true, ltb-false}
 use Rattle.pages.proofs.Choice.{split, same}
 use Rattle.filter.specs.Filter.{flags_of, Clear}
 
-pub flags-length : (bs : List ℕ) → length (flags_of bs) ≡ 2 * length bs
+pub flags_length : (bs : List ℕ) → length (flags_of bs) ≡ 2 * length bs
 unfolding flags_of
-flags-length [] = refl
-flags-length (b ∷ bs) = omega (arith, flags-length bs)
+flags_length [] = refl
+flags_length (b ∷ bs) = omega (arith, flags_length bs)
 
 -- Rows of bytes of one length have as many flags, and the other way round.
-pub flags-kept : (a b : List ℕ) → length a ≡ length b → length (flags_of a) ≡ length (flags_of b)
-flags-kept a b e = omega (arith, flags-length a, flags-length b)
+pub flags_kept : (a b : List ℕ) → length a ≡ length b → length (flags_of a) ≡ length (flags_of b)
+flags_kept a b e = omega (arith, flags_length a, flags_length b)
 
 pub bytes-kept : (a b : List ℕ) → length (flags_of a) ≡ length (flags_of b) → length a ≡ length b
-bytes-kept a b e = omega (arith, flags-length a, flags-length b)
+bytes-kept a b e = omega (arith, flags_length a, flags_length b)
 
 two_more : (i : ℕ) → 2 * suc i ≡ suc (suc (2 * i))
 two_more i = omega arith
@@ -71,7 +71,7 @@ put_upper (b ∷ bs) (suc i) v h = rw (two_more i) (ap (λ (l : List ℕ). b % 2
 
 module _ (bs : List ℕ) (j : ℕ) where
   pub flag_byte : j < length (flags_of bs) → j / 2 < length bs
-  flag_byte h = omega (arith, flags-length bs)
+  flag_byte h = omega (arith, flags_length bs)
 
   pub flag_even : j % 2 ≡ 0 → get_or bs (j / 2) 0 % 2 ≡ get_or (flags_of bs) j 0
   flag_even e = let z : 2 * (j / 2) ≡ j = omega arith in rw z at (sym (flag_lower bs (j / 2)))
@@ -96,15 +96,15 @@ flag_bit (b ∷ bs) (suc (suc j)) = flag_bit bs j
 -- ---- all cleared
 
 -- Bytes that are 0 have no flag set.
-pub flags-clear : (bs : List ℕ) → ((i : ℕ) → get_or bs i 0 ≡ 0) → Clear 0 (flags_of bs)
+pub flags_clear : (bs : List ℕ) → ((i : ℕ) → get_or bs i 0 ≡ 0) → Clear 0 (flags_of bs)
 unfolding flags_of
-flags-clear [] z j o = refl
-flags-clear (b ∷ bs) z zero o = let e : b ≡ 0 = z 0 in rw e
-flags-clear (b ∷ bs) z (suc zero) o = let e : b ≡ 0 = z 0 in rw e
-flags-clear (b ∷ bs) z (suc (suc j)) o = flags-clear bs (λ i. z (suc i)) j (omega arith)
+flags_clear [] z j o = refl
+flags_clear (b ∷ bs) z zero o = let e : b ≡ 0 = z 0 in rw e
+flags_clear (b ∷ bs) z (suc zero) o = let e : b ≡ 0 = z 0 in rw e
+flags_clear (b ∷ bs) z (suc (suc j)) o = flags_clear bs (λ i. z (suc i)) j (omega arith)
 
 pub zeros_clear : (n : ℕ) → Clear 0 (flags_of (replicate n 0))
-zeros_clear n = flags-clear (replicate n 0) (zeros n)
+zeros_clear n = flags_clear (replicate n 0) (zeros n)
   where
     zeros : (n i : ℕ) → ◌≡◌ {A = ℕ} (get_or (replicate n 0) i 0) 0
     zeros zero i = refl
@@ -129,4 +129,4 @@ clearing_more {bs = bs} {i} c h = record {
 
 pub clearing_all : {bs₀ bs : List ℕ} {i : ℕ} → Clearing bs₀ bs i → length bs ≤ i → Clear 0 (flags_of bs)
 clearing_all {bs = bs} {i} c h =
-    flags-clear bs (λ j. split (ltb j i) (λ e. c.done j (ltb-true j i e)) (λ e. get_or-eq_default bs 0 {n = j} (omega (arith, ltb-false j i e))))
+    flags_clear bs (λ j. split (ltb j i) (λ e. c.done j (ltb-true j i e)) (λ e. get_or-eq_default bs 0 {n = j} (omega (arith, ltb-false j i e))))

@@ -9,31 +9,31 @@ use lib.ListN.{length, get_or, set, length-set, get_or-append, replicate, length
 use lib.Seq.{get_or-append_seam}
 use borrow.Author.Tests.{lt-ltb, le-ltb}
 use Rattle.pages.specs.Pages.{has, add}
-use Rattle.pages.proofs.Added.{add-new}
+use Rattle.pages.proofs.Added.{add_new}
 use Rattle.trace.specs.Layout.{item_at}
 use Rattle.trace.specs.declared.Item.{Item}
 use Rattle.chains.specs.Chains.{at, CanPush, heads_with, next_with}
-use Rattle.chains.proofs.Chained.{Low, chained-none, chained_low, chained_more, low_zeros}
+use Rattle.chains.proofs.Chained.{Low, chained_none, chained_low, chained_more, low_zeros}
 use Rattle.filter.specs.Filter.{pages_of, pages_in, buckets, bucket_of, bucket_at, Holds, IsFilter, CanAdd, fits_above, empty_base, empty_heads}
-use Rattle.filter.proofs.Noting.{notes-long, notes_again, notes_more}
+use Rattle.filter.proofs.Noting.{notes_long, notes_again, notes_more}
 use Rattle.filter.proofs.Finding.{bucket_below}
 
 -- No page: the heads may say anything up to base.
-pub holds-none : (file last : List ℕ) {base : ℕ} {heads next : List ℕ} → Low base heads → buckets ≤ length heads → length last ≤ length next
+pub holds_none : (file last : List ℕ) {base : ℕ} {heads next : List ℕ} → Low base heads → buckets ≤ length heads → length last ≤ length next
     → base + length last ≤ 65535 → Holds file last 0 base heads next []
 unfolding pages_of
-holds-none file last {next = next} w h n s = record {
-  notes = record { within = omega arith; readable = λ j o. absurd (omega arith); pages-are = refl; once = tt };
-  chained = chained-none (bucket_at []) next w;
+holds_none file last {next = next} w h n s = record {
+  notes = record { within = omega arith; readable = λ j o. absurd (omega arith); pages_are = refl; once = tt };
+  chained = chained_none (bucket_at []) next w;
   heads_long = h;
-  next-long = n;
+  next_long = n;
   small = s;
 }
 
 module _ {file last : List ℕ} {held base : ℕ} {heads next l : List ℕ} (f : Holds file last held base heads next l) where
   -- It is a filter.
   pub holds_in : IsFilter file last held base heads next
-  holds_in = rw f.notes.pages-are f
+  holds_in = rw f.notes.pages_are f
 
   -- What the heads say is no more than base and the number of pages.
   pub holds_low : Low (base + held) heads
@@ -45,7 +45,7 @@ module _ {file last : List ℕ} {held base : ℕ} {heads next l : List ℕ} (f :
   unfolding fits_above empty_base empty_heads
   emptied_above s =
       let t = lt-ltb (base + held + length last) 65536 (omega arith) in
-      (rw t, (rw t, holds-none file last holds_low f.heads_long f.next-long s))
+      (rw t, (rw t, holds_none file last holds_low f.heads_long f.next_long s))
 
   -- or with heads that are cleared.
   pub emptied_clear : 65535 < base + held + length last → {heads' : List ℕ} → heads' ≡ replicate (length heads) 0
@@ -54,7 +54,7 @@ module _ {file last : List ℕ} {held base : ℕ} {heads next l : List ℕ} (f :
   emptied_clear s e =
       let t = le-ltb (base + held + length last) 65536 (omega arith) in
       let w : buckets ≤ length {A = ℕ} (replicate (length heads) 0) = rw length-replicate f.heads_long in
-      (rw t, (rw t e, rw e (holds-none file last (low_zeros (length heads)) w f.next-long (omega (arith, f.small)))))
+      (rw t, (rw t e, rw e (holds_none file last (low_zeros (length heads)) w f.next_long (omega (arith, f.small)))))
 
   module _ (k : ℕ) (readable : 23 + 19 * (k + 1) ≤ length file) where
     -- An item of a page that is held is noted in place of the one before it.
@@ -63,7 +63,7 @@ module _ {file last : List ℕ} {held base : ℕ} {heads next l : List ℕ} (f :
       notes = notes_again f.notes k readable j h e;
       chained = f.chained;
       heads_long = f.heads_long;
-      next-long = rw length-set f.next-long;
+      next_long = rw length-set f.next_long;
       small = rw length-set f.small;
     }
 
@@ -71,20 +71,20 @@ module _ {file last : List ℕ} {held base : ℕ} {heads next l : List ℕ} (f :
     module _ (room : held < length last) (new : has (item_at file k).page l ≡ false) where
       bucket_more : (j : ℕ) → j < held → bucket_at (add (item_at file k).page l) j ≡ bucket_at l j
       unfolding at bucket_at
-      bucket_more j h = rw (add-new (item_at file k).page l new, get_or-append l ((item_at file k).page ∷ []) 0 j (rw (notes-long f.notes) h))
+      bucket_more j h = rw (add_new (item_at file k).page l new, get_or-append l ((item_at file k).page ∷ []) 0 j (rw (notes_long f.notes) h))
 
-      bucket-new : bucket_at (add (item_at file k).page l) held ≡ bucket_of (item_at file k).page
+      bucket_new : bucket_at (add (item_at file k).page l) held ≡ bucket_of (item_at file k).page
       unfolding at bucket_at
-      bucket-new = rw (add-new (item_at file k).page l new, ← notes-long f.notes, get_or-append_seam)
+      bucket_new = rw (add_new (item_at file k).page l new, ← notes_long f.notes, get_or-append_seam)
 
       pub holds_more : Holds file (set last held k) (held + 1) base (heads_with base held (bucket_of (item_at file k).page) heads)
           (next_with base held (bucket_of (item_at file k).page) heads next) (add (item_at file k).page l)
       holds_more = record {
         notes = notes_more f.notes k readable room new;
-        chained = rw add-one (chained_more f.chained (bucket_at (add (item_at file k).page l)) (bucket_of (item_at file k).page) bucket_more bucket-new
-            (omega (arith, bucket_below (item_at file k).page, f.heads_long)) (omega (arith, f.next-long)));
+        chained = rw add-one (chained_more f.chained (bucket_at (add (item_at file k).page l)) (bucket_of (item_at file k).page) bucket_more bucket_new
+            (omega (arith, bucket_below (item_at file k).page, f.heads_long)) (omega (arith, f.next_long)));
         heads_long = rw length-set f.heads_long;
-        next-long = rw (length-set, length-set) f.next-long;
+        next_long = rw (length-set, length-set) f.next_long;
         small = rw length-set f.small;
       }
 
@@ -96,7 +96,7 @@ module _ {file last : List ℕ} {held base : ℕ} {heads next : List ℕ} {k : �
   pub add_push : CanPush base held v heads next
   add_push =
       let f = c.filter in
-      record { bucket = rw q (omega (arith, bucket_below x.page, f.heads_long)); room = omega (arith, c.room, f.next-long); small = omega (arith, c.room, f.small) }
+      record { bucket = rw q (omega (arith, bucket_below x.page, f.heads_long)); room = omega (arith, c.room, f.next_long); small = omega (arith, c.room, f.small) }
 
   pub add_holds : {last' heads' next' : List ℕ} → last' ≡ set last held k → heads' ≡ heads_with base held v heads → next' ≡ next_with base held v heads next
       → (last' ≡ set last held k) × ((heads' ≡ heads_with base held (bucket_of (item_at file k).page) heads)

@@ -11,14 +11,14 @@ use Rattle.pages.specs.Pages.{has, place}
 use Rattle.pages.proofs.Choice.{split, same}
 use Rattle.pages.proofs.Rows.{take_next}
 use Rattle.pages.proofs.Added.{has_join}
-use Rattle.pages.proofs.Table.{place-most, has_within, get_d_place}
+use Rattle.pages.proofs.Table.{place_most, has_within, get_d_place}
 use Rattle.trace.specs.Layout.{item_at}
 use Rattle.trace.specs.declared.Item.{Item}
 use Rattle.chains.specs.Chains.{at, newest, mixed}
-use Rattle.chains.proofs.Newest.{has-newest, newest-none, newest-place}
+use Rattle.chains.proofs.Newest.{has-newest, newest_none, newest-place}
 use Rattle.chains.proofs.Chained.{Seeking, seeking_none, seeking_within, seeking_less, seeking_end, seeking_here, seeking_more}
 use Rattle.filter.specs.Filter.{Stands, Notes, buckets, bucket_of, bucket_at, Holds, FirstNoted}
-use Rattle.filter.proofs.Noting.{notes-long, notes-stands, notes-page, notes-place, notes-item, notes-told}
+use Rattle.filter.proofs.Noting.{notes_long, notes_stands, notes_page, notes_place, notes_item, notes_told}
 
 -- A bucket is one of the heads'.
 pub bucket_below : (p : ℕ) → bucket_of p < buckets
@@ -54,17 +54,17 @@ module _ {file last : List ℕ} {held : ℕ} {l : List ℕ} (n : Notes file last
       split (eqb (place p l) i)
       (λ e.
       let z = same (place p l) i e in
-      let w : place p l < length l = rw (notes-long n, z) h in
-      absurd (t (r ∙ sym (notes-page n i h) ∙ rw z at (get_d_place p l (has_within p l w)))))
+      let w : place p l < length l = rw (notes_long n, z) h in
+      absurd (t (r ∙ sym (notes_page n i h) ∙ rw z at (get_d_place p l (has_within p l w)))))
       (λ e. let d = eqb-false (place p l) i e in omega arith)
 
   module _ {i : ℕ} (s : Scanning held l p i) where
     pub scan_all : held ≤ i → held ≡ place p l
-    scan_all h = omega (arith, s.passed, place-most p l, notes-long n)
+    scan_all h = omega (arith, s.passed, place_most p l, notes_long n)
 
     -- One of the next four places has the page.
     pub scan_found : (d : ℕ) → ltb d 4 ≡ true → i + 4 ≤ held → {q : ℕ} → q ≡ (item_at file (get_or last (i + d) 0)).page → q ≡ p → i + d ≡ place p l
-    scan_found d t h r e = notes-place n p (i + d) (ahead_by i d h t) r e
+    scan_found d t h r e = notes_place n p (i + d) (ahead_by i d h t) r e
 
     pub scan_more : i < held → {q : ℕ} → q ≡ (item_at file (get_or last i 0)).page → (q ≡ p → ⊥) → Scanning held l p (i + 1)
     scan_more h r t = record { within = omega arith; passed = other s.passed h r t }
@@ -96,10 +96,10 @@ module _ {file last : List ℕ} {held base : ℕ} {heads next l : List ℕ} (f :
       find_within = omega (arith, seeking_within s some, f.notes.within)
 
       pub find_stands : Stands file last (e - 1)
-      find_stands = notes-stands f.notes (e - 1) (seeking_within s some)
+      find_stands = notes_stands f.notes (e - 1) (seeking_within s some)
 
       pub find_next : e - 1 < length next
-      find_next = omega (arith, seeking_within s some, f.next-long, f.notes.within)
+      find_next = omega (arith, seeking_within s some, f.next_long, f.notes.within)
 
       pub find_less : {d : ℕ} → d ≡ get_or next (e - 1) 0 → d < e
       find_less z = seeking_less s some f.chained z
@@ -112,15 +112,15 @@ module _ {file last : List ℕ} {held base : ℕ} {heads next l : List ℕ} (f :
     apart j h q = ap bucket_of q
 
     long : length l ≡ held
-    long = notes-long f.notes
+    long = notes_long f.notes
 
     pub find_end : e ≤ 0 → held ≡ place p l
-    find_end z = sym long ∙ newest-none p l (rw long (seeking_end s apart z))
+    find_end z = sym long ∙ newest_none p l (rw long (seeking_end s apart z))
 
     module _ (some : 0 < e) {q : ℕ} (r : q ≡ (item_at file (get_or last (e - 1) 0)).page) where
       at_is : at l (e - 1) ≡ q
       unfolding at
-      at_is = notes-page f.notes (e - 1) (seeking_within s some) ∙ sym r
+      at_is = notes_page f.notes (e - 1) (seeking_within s some) ∙ sym r
 
       pub find_here : q ≡ p → e - 1 ≡ place p l
       find_here t = newest-place p l f.notes.once (e - 1) (rw long (seeking_here s apart some (at_is ∙ t)))
@@ -138,7 +138,7 @@ module _ {file last : List ℕ} {held base : ℕ} {heads next l : List ℕ} (f :
   module _ {k e : ℕ} (s : Seeking (at last) (bucket_at l) held k (bucket_of (item_at file k).page) e) where
     shared : (j : ℕ) → j < held → at last j ≡ k → bucket_at l j ≡ bucket_of (item_at file k).page
     unfolding at bucket_at
-    shared j h q = ap bucket_of (notes-page f.notes j h ∙ rw q)
+    shared j h q = ap bucket_of (notes_page f.notes j h ∙ rw q)
 
     listed : has k (take held last) ≡ ltb 0 (newest (at last) k held)
     listed = has-newest k last held f.notes.within
@@ -220,16 +220,16 @@ module _ {file last : List ℕ} {held : ℕ} {l : List ℕ} (n : Notes file last
   absent n = record { from = omega arith; none = λ i a b. (let t : k ≡ i = omega arith in rw t at n); here = λ t. absurd (omega arith) }
 
   told : j < held → eqb (get_or last j 0) k ≡ has k (take held last)
-  told h = rw (q, e) (notes-told n k (rw (q, e) at h))
+  told h = rw (q, e) (notes_told n k (rw (q, e) at h))
 
   -- The page is not held,
   pub page_nowhere : held ≤ j → FirstNoted (take held last) k (k + 1)
-  page_nowhere h = absent (split (has k (take held last)) (λ t. absurd (omega (arith, rw (← e, ← q) at (notes-item n k t).0))) (λ t. t))
+  page_nowhere h = absent (split (has k (take held last)) (λ t. absurd (omega (arith, rw (← e, ← q) at (notes_item n k t).0))) (λ t. t))
 
   module _ (h : j < held) {i : ℕ} (r : i ≡ get_or last j 0) where
     -- or notes the item,
-    pub page-here : i ≡ k → FirstNoted (take held last) k k
-    page-here t = record { from = omega arith; none = λ x a b. absurd (omega arith); here = λ u. sym (told h) ∙ eq-eqb (get_or last j 0) k (sym r ∙ t) }
+    pub page_here : i ≡ k → FirstNoted (take held last) k k
+    page_here t = record { from = omega arith; none = λ x a b. absurd (omega arith); here = λ u. sym (told h) ∙ eq-eqb (get_or last j 0) k (sym r ∙ t) }
 
     -- or another.
     pub page_other : (i ≡ k → ⊥) → FirstNoted (take held last) k (k + 1)

@@ -11,8 +11,8 @@ use lib.Dec.{eqb}
 use borrow.Author.Tests.{eq-eqb, ne_eqb, eqb-false}
 use Rattle.pages.specs.Pages.{has, add, place}
 use Rattle.pages.proofs.Choice.{split, same}
-use Rattle.pages.proofs.Added.{add-new, distinct-add}
-use Rattle.pages.proofs.Table.{place-within, get_d_place, has_get_d, place_alone}
+use Rattle.pages.proofs.Added.{add_new, distinct_add}
+use Rattle.pages.proofs.Table.{place_within, get_d_place, has_get_d, place_alone}
 use Rattle.trace.specs.Layout.{item_at}
 use Rattle.trace.specs.declared.Item.{Item}
 use Rattle.filter.specs.Filter.{pages_of, Stands, Notes}
@@ -25,57 +25,57 @@ module _ (file : List ℕ) where
   get_d_pages (i ∷ items) (suc j) h = get_d_pages items j (omega arith)
 
   -- An item that is read at a place has the page of the item noted there.
-  pub page-read : (last : List ℕ) (j : ℕ) {i : ℕ} {x : Item} → i ≡ get_or last j 0 → x ≡ item_at file i → x.page ≡ (item_at file (get_or last j 0)).page
-  page-read last j q e = rw (e, q)
+  pub page_read : (last : List ℕ) (j : ℕ) {i : ℕ} {x : Item} → i ≡ get_or last j 0 → x ≡ item_at file i → x.page ≡ (item_at file (get_or last j 0)).page
+  page_read last j q e = rw (e, q)
 
 module _ {file last : List ℕ} {held : ℕ} {l : List ℕ} (n : Notes file last held l) where
   -- There are as many pages as places.
-  pub notes-long : length l ≡ held
+  pub notes_long : length l ≡ held
   unfolding pages_of
-  notes-long = rw (← n.pages-are, length-map) (length-take-le held last n.within)
+  notes_long = rw (← n.pages_are, length-map) (length-take-le held last n.within)
 
   -- Its place can be read.
-  pub notes-stands : (j : ℕ) → j < held → Stands file last j
-  notes-stands j h = record { within = omega (arith, n.within); readable = n.readable j h }
+  pub notes_stands : (j : ℕ) → j < held → Stands file last j
+  notes_stands j h = record { within = omega (arith, n.within); readable = n.readable j h }
 
   -- The page at a place is that of the item noted there.
-  pub notes-page : (j : ℕ) → j < held → get_or l j 0 ≡ (item_at file (get_or last j 0)).page
-  notes-page j h =
+  pub notes_page : (j : ℕ) → j < held → get_or l j 0 ≡ (item_at file (get_or last j 0)).page
+  notes_page j h =
       let b : j < length (take held last) = rw (length-take-le held last n.within) h in
-      rw (← n.pages-are) (get_d_pages file (take held last) j b ∙ rw (get_or-take held last j 0 h))
+      rw (← n.pages_are) (get_d_pages file (take held last) j b ∙ rw (get_or-take held last j 0 h))
 
   -- A page that is read at a place has that place.
-  pub notes-place : (p j : ℕ) → j < held → {q : ℕ} → q ≡ (item_at file (get_or last j 0)).page → q ≡ p → j ≡ place p l
-  notes-place p j h r e = place_alone p l j n.once (rw notes-long h) (notes-page j h ∙ sym r ∙ e)
+  pub notes_place : (p j : ℕ) → j < held → {q : ℕ} → q ≡ (item_at file (get_or last j 0)).page → q ≡ p → j ≡ place p l
+  notes_place p j h r e = place_alone p l j n.once (rw notes_long h) (notes_page j h ∙ sym r ∙ e)
 
   -- An item that is noted is noted at the place of its page, which is one of those held.
-  pub notes-item : (k : ℕ) → has k (take held last) ≡ true → (place (item_at file k).page l < held) × (get_or last (place (item_at file k).page l) 0 ≡ k)
-  notes-item k h =
+  pub notes_item : (k : ℕ) → has k (take held last) ≡ true → (place (item_at file k).page l < held) × (get_or last (place (item_at file k).page l) 0 ≡ k)
+  notes_item k h =
       let i = place k (take held last) in
-      let w : i < held = rw (length-take-le held last n.within) at (place-within k (take held last) h) in
+      let w : i < held = rw (length-take-le held last n.within) at (place_within k (take held last) h) in
       let g : get_or last i 0 ≡ k = sym (get_or-take held last i 0 w) ∙ get_d_place k (take held last) h in
-      rw (← notes-place (item_at file k).page i w refl (rw g)) (w, g)
+      rw (← notes_place (item_at file k).page i w refl (rw g)) (w, g)
 
   -- What is noted at the place of an item's page tells whether the item is noted.
-  pub notes-told : (k : ℕ) → place (item_at file k).page l < held → eqb (get_or last (place (item_at file k).page l) 0) k ≡ has k (take held last)
-  notes-told k h =
+  pub notes_told : (k : ℕ) → place (item_at file k).page l < held → eqb (get_or last (place (item_at file k).page l) 0) k ≡ has k (take held last)
+  notes_told k h =
       let j = place (item_at file k).page l in
       let w : j < length (take held last) = rw (length-take-le held last n.within) h in
       split (has k (take held last))
-      (λ t. eq-eqb (get_or last j 0) k (notes-item k t).1 ∙ sym t)
+      (λ t. eq-eqb (get_or last j 0) k (notes_item k t).1 ∙ sym t)
       (λ t. ne_eqb (get_or last j 0) k (λ z. true≢false (sym (has_get_d k (take held last) j w (get_or-take held last j 0 h ∙ z)) ∙ t)) ∙ sym t)
 
   -- ---- whether a page stands at a place
 
   module _ (p : ℕ) (h : has p l ≡ true) (c : ℕ) where
-    pub at-page : c < held → {q : ℕ} → q ≡ (item_at file (get_or last c 0)).page → eqb q p ≡ eqb (place p l) c
-    at-page w {q} r =
+    pub at_page : c < held → {q : ℕ} → q ≡ (item_at file (get_or last c 0)).page → eqb q p ≡ eqb (place p l) c
+    at_page w {q} r =
         split (eqb q p)
-        (λ t. t ∙ sym (eq-eqb _ c (sym (notes-place p c w r (same q p t)))))
-        (λ t. t ∙ sym (ne_eqb _ c (λ z. eqb-false q p t (r ∙ sym (notes-page c w) ∙ rw z at (get_d_place p l h)))))
+        (λ t. t ∙ sym (eq-eqb _ c (sym (notes_place p c w r (same q p t)))))
+        (λ t. t ∙ sym (ne_eqb _ c (λ z. eqb-false q p t (r ∙ sym (notes_page c w) ∙ rw z at (get_d_place p l h)))))
 
     pub at_none : held ≤ c → false ≡ eqb (place p l) c
-    at_none w = sym (ne_eqb _ c (λ z. omega (arith, place-within p l h, notes-long)))
+    at_none w = sym (ne_eqb _ c (λ z. omega (arith, place_within p l h, notes_long)))
 
 -- ---- after a store
 
@@ -92,8 +92,8 @@ module _ {file last : List ℕ} {held : ℕ} {l : List ℕ} (n : Notes file last
             split (eqb i j)
             (λ t. rw (same i j t, get_or-set_same last j k 0 w) readable)
             (λ t. rw (get_or-set_other last j i k 0 (eqb-false i j t)) (n.readable i o));
-        pages-are = rw (take-set-lt held last j k h)
-            (map-set_same (λ i. (item_at file i).page) (take held last) j k 0 (e ∙ notes-page n j h ∙ rw (get_or-take held last j 0 h)) ∙ n.pages-are);
+        pages_are = rw (take-set-lt held last j k h)
+            (map-set_same (λ i. (item_at file i).page) (take held last) j k 0 (e ∙ notes_page n j h ∙ rw (get_or-take held last j 0 h)) ∙ n.pages_are);
         once = n.once;
       }
 
@@ -106,6 +106,6 @@ module _ {file last : List ℕ} {held : ℕ} {l : List ℕ} (n : Notes file last
         split (eqb i held)
         (λ t. rw (same i held t, get_or-set_same last held k 0 w) readable)
         (λ t. let d = eqb-false i held t in rw (get_or-set_other last held i k 0 d) (n.readable i (omega arith)));
-    pages-are = rw (add-one, take-suc-set last held k w, map-append, add-new (item_at file k).page l new, n.pages-are);
-    once = distinct-add (item_at file k).page l n.once;
+    pages_are = rw (add-one, take-suc-set last held k w, map-append, add_new (item_at file k).page l new, n.pages_are);
+    once = distinct_add (item_at file k).page l n.once;
   }

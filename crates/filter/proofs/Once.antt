@@ -61,8 +61,8 @@ add_heads_once κs args x y s t p q = p.1.0 ∙ sym q.1.0
 pub add_next_once : OneBuffer add.ps add.r add_post (λ κs s. s.1.1.1.1.1.0.now)
 add_next_once κs args x y s t p q = p.1.1.0 ∙ sym q.1.1.0
 
-pub empty-once : OneResult empty.ps empty.r empty_post
-empty-once κs args x y s t p q = p.0 ∙ sym q.0
+pub empty_once : OneResult empty.ps empty.r empty_post
+empty_once κs args x y s t p q = p.0 ∙ sym q.0
 
 pub empty_heads_once : OneBuffer empty.ps empty.r empty_post (λ κs s. s.1.1.1.1.0.now)
 empty_heads_once κs args x y s t p q = p.1.0 ∙ sym q.1.0

@@ -8,9 +8,9 @@ use Rattle.chains.specs.Chains.{mixed}
 use Rattle.filter.specs.Filter.{pages_of, pages_in, bucket_of, flags_of, flag_is, place_if, fits_above, empty_base, empty_heads}
 
 -- After T's first five items a filter that notes items 4 and 3 holds pages 1 and 2; a third place, which is not held, may say anything.
-pages-held : pages_in file_T (4 ∷ 3 ∷ 77 ∷ []) 2 ≡ 1 ∷ 2 ∷ []
+pages_held : pages_in file_T (4 ∷ 3 ∷ 77 ∷ []) 2 ≡ 1 ∷ 2 ∷ []
 unfolding pages_of encode encode_header encode_items encode_item field bytes item_at item number_at number
-pages-held = refl
+pages_held = refl
 
 -- Pages 0 and 987 share a bucket, and pages 0 and 1 do not.
 buckets_of : map bucket_of (0 ∷ 1 ∷ 2 ∷ 987 ∷ 4294967296 ∷ 18446744073709551615 ∷ []) ≡ 0 ∷ 391 ∷ 782 ∷ 0 ∷ 367 ∷ 265 ∷ []

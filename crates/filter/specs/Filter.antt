@@ -23,7 +23,7 @@ pub record Stands (file last : List ℕ) (j : ℕ) : Type 0 where
 pub record Notes (file last : List ℕ) (held : ℕ) (l : List ℕ) : Type 0 where
   pub within : held ≤ length last
   pub readable : (j : ℕ) → j < held → 23 + 19 * (get_or last j 0 + 1) ≤ length file
-  pub pages-are : pages_in file last held ≡ l
+  pub pages_are : pages_in file last held ≡ l
   pub once : Distinct l
 
 -- ---- how it finds them
@@ -45,7 +45,7 @@ pub record Holds (file last : List ℕ) (held base : ℕ) (heads next l : List �
   pub notes : Notes file last held l
   pub chained : Chained (bucket_at l) held base heads next
   pub heads_long : buckets ≤ length heads
-  pub next-long : length last ≤ length next
+  pub next_long : length last ≤ length next
   pub small : base + length last ≤ 65535
 
 -- The rows are a filter.

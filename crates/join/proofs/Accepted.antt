@@ -23,9 +23,9 @@ use Rattle.trace.proofs.RoundTrip.{reads_back, is_taken}
 use Rattle.join.specs.Join.{joined_kind, joined_header, joined_file, judged}
 use Rattle.join.specs.Promises.{WritesJoined}
 use Rattle.join.specs.declared.Judged.TheVariants.{Passed}
-use Rattle.join.proofs.Heading.{kind-whole}
+use Rattle.join.proofs.Heading.{kind_whole}
 use Rattle.join.proofs.Joining.{Joinable, passed_joinable}
-use Rattle.join.proofs.Meeting.{rising-joined}
+use Rattle.join.proofs.Meeting.{rising_joined}
 
 -- ---- the kind
 
@@ -38,9 +38,9 @@ kind_range a b =
     (λ u. split (eqb a 2 || eqb b 2) (λ t. rw (u, t) (omega arith)) (λ w. rw (u, w) (omega arith)))
 
 -- A joined file is whole only where both files are.
-kind-both : (a b : ℕ) → joined_kind a b ≡ 0 → (a ≡ 0) × (b ≡ 0)
+kind_both : (a b : ℕ) → joined_kind a b ≡ 0 → (a ≡ 0) × (b ≡ 0)
 unfolding joined_kind
-kind-both a b e =
+kind_both a b e =
     split (eqb a 0 && eqb b 0)
     (λ t. let (p, q) = and_true (eqb a 0) (eqb b 0) t in (eqb-true a 0 p, eqb-true b 0 q))
     (λ u. split (eqb a 2 || eqb b 2) (λ t. absurd (let z = rw (u, t) at e in omega arith)) (λ w. absurd (let z = rw (u, w) at e in omega arith)))
@@ -60,7 +60,7 @@ module _ (f g : List ℕ) (v : Facts (header f)) (w : Facts (header g)) where
   filter_there n =
       split (eqb (header f).kind 0)
       (λ t. split (eqb (header g).kind 0)
-      (λ u. absurd (n (sym (kind-whole (header f).kind (header g).kind (eqb-true (header f).kind 0 t) (eqb-true (header g).kind 0 u)))))
+      (λ u. absurd (n (sym (kind_whole (header f).kind (header g).kind (eqb-true (header f).kind 0 t) (eqb-true (header g).kind 0 u)))))
       (λ u. omega (arith, (w.reduced (eqb-false (header g).kind 0 u)).0)))
       (λ t. omega (arith, (v.reduced (eqb-false (header f).kind 0 t)).0))
 
@@ -72,7 +72,7 @@ module _ (f g : List ℕ) (v : Facts (header f)) (w : Facts (header g)) where
     within = omega (arith, v.within, w.within);
     kinds = kind_range (header f).kind (header g).kind;
     whole = λ z.
-        let (p, q) = kind-both (header f).kind (header g).kind z in
+        let (p, q) = kind_both (header f).kind (header g).kind z in
         let (r, s) = v.whole p in
         let (t, u) = w.whole q in
         (omega arith, omega arith);
@@ -102,18 +102,18 @@ joined-allowed f g room x y e =
     let w = allowed_facts (header g) q.header-allowed in
     record {
       header-allowed = facts_allowed (joined_header f g) (facts_joined f g v w a);
-      references-fit = unfold joined_header in omega (arith, a.references-few);
+      references_fit = unfold joined_header in omega (arith, a.references_few);
       counted = unfold joined_header in rw length-append (omega (arith, p.counted, q.counted));
-      items-fit = all_append ItemFits (items f) (items g) p.items-fit q.items-fit;
-      rising = rising-joined f g p.rising q.rising a.meets;
+      items_fit = all_append ItemFits (items f) (items g) p.items_fit q.items_fit;
+      rising = rising_joined f g p.rising q.rising a.meets;
     }
 
 -- The written file is accepted, and says the items of the first file and then of the second.
-pub writes-joined : WritesJoined
+pub writes_joined : WritesJoined
 unfolding joined_file decode
-writes-joined f g room x y e =
+writes_joined f g room x y e =
     let a = joined-allowed f g room x y e in
     record {
       accepted = is_taken (joined_header f g) (items f ++ items g) a;
-      items-are = ap (λ (t : Trace). t.items) (reads_back (joined_header f g) (items f ++ items g) a);
+      items_are = ap (λ (t : Trace). t.items) (reads_back (joined_header f g) (items f ++ items g) a);
     }

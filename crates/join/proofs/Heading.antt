@@ -13,20 +13,20 @@ use Rattle.join.specs.Join.{joined_kind, joined_header}
 
 module _ (a b : ℕ) where
   -- The first file is of kind 2.
-  pub kind-first : a ≡ 2 → 2 ≡ joined_kind a b
+  pub kind_first : a ≡ 2 → 2 ≡ joined_kind a b
   unfolding joined_kind
-  kind-first e = rw e
+  kind_first e = rw e
 
   -- The second file is.
-  pub kind-second : b ≡ 2 → 2 ≡ joined_kind a b
+  pub kind_second : b ≡ 2 → 2 ≡ joined_kind a b
   unfolding joined_kind
-  kind-second e = split (eqb a 0) (λ t. rw (eqb-true a 0 t, e)) (λ f. split (eqb a 2) (λ t. rw (f, t)) (λ u. rw (f, u, e)))
+  kind_second e = split (eqb a 0) (λ t. rw (eqb-true a 0 t, e)) (λ f. split (eqb a 2) (λ t. rw (f, t)) (λ u. rw (f, u, e)))
 
   module _ (n : a ≡ 2 → ⊥) (m : b ≡ 2 → ⊥) where
     -- Neither is, and the first is not whole.
-    pub kind-one : (a ≡ 0 → ⊥) → 1 ≡ joined_kind a b
+    pub kind_one : (a ≡ 0 → ⊥) → 1 ≡ joined_kind a b
     unfolding joined_kind
-    kind-one z = rw (ne_eqb a 0 z, ne_eqb a 2 n, ne_eqb b 2 m)
+    kind_one z = rw (ne_eqb a 0 z, ne_eqb a 2 n, ne_eqb b 2 m)
 
     -- Neither is, and the second is not whole.
     pub kind_other : a ≡ 0 → (b ≡ 0 → ⊥) → 1 ≡ joined_kind a b
@@ -34,9 +34,9 @@ module _ (a b : ℕ) where
     kind_other e z = rw (e, ne_eqb b 0 z, ne_eqb b 2 m)
 
   -- Both files are whole.
-  pub kind-whole : a ≡ 0 → b ≡ 0 → 0 ≡ joined_kind a b
+  pub kind_whole : a ≡ 0 → b ≡ 0 → 0 ≡ joined_kind a b
   unfolding joined_kind
-  kind-whole e z = rw (e, z)
+  kind_whole e z = rw (e, z)
 
 -- ---- the header
 

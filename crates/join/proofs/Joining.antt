@@ -23,8 +23,8 @@ use Rattle.trace.specs.declared.Verdict.TheVariants.{Sound, Faulty}
 use Rattle.trace.proofs.Allowed.{le_between}
 use Rattle.trace.proofs.Sound.{first_passed, passed_first}
 use Rattle.trace.proofs.Checking.{sound_file}
-use Rattle.trace.proofs.Items.{items-from, length_from}
-use Rattle.trace.proofs.Output.{Wrote, wrote_then, wrote-file}
+use Rattle.trace.proofs.Items.{items_from_lem, length_from}
+use Rattle.trace.proofs.Output.{Wrote, wrote_then, wrote_file}
 use Rattle.join.specs.Join.{joined_header, joined_file, meets_falling, too_large, join_tests, judged, join_answer, join_out}
 use Rattle.join.specs.declared.Judged.{Judged}
 use Rattle.join.specs.declared.Judged.TheVariants.{Passed, Failed}
@@ -38,7 +38,7 @@ pub record Joinable (f g : List ℕ) (room : ℕ) : Type 0 where
   pub second_sound : verdict g ≡ Sound
   pub meets : meets_falling f g ≡ false
   pub few : (header f).items + (header g).items ≤ items_most
-  pub references-few : (header f).references + (header g).references ≤ 2 ^ 32 - 1
+  pub references_few : (header f).references + (header g).references ≤ 2 ^ 32 - 1
   pub fits : 23 + 19 * ((header f).items + (header g).items) ≤ room
 
 -- Nothing is failed and passed.
@@ -94,7 +94,7 @@ passed_joinable f g room e =
       second_sound = b;
       meets = search passed;
       few = few;
-      references-few = references;
+      references_few = references;
       fits = ltb-false room (23 + 19 * ((header f).items + (header g).items)) (search passed);
     }
 
@@ -104,7 +104,7 @@ unfolding judged joined_header too_large
 joinable_passed f g room a =
     let n = (header f).items + (header g).items in
     let few : between items_least items_most n ≡ true = le_between items_least items_most n (omega arith) a.few in
-    let large : too_large f g ≡ false = rw few (le-ltb (2 ^ 32 - 1) ((header f).references + (header g).references) a.references-few) in
+    let large : too_large f g ≡ false = rw few (le-ltb (2 ^ 32 - 1) ((header f).references + (header g).references) a.references_few) in
     let own : first (join_tests f g room) ≡ Sound = passed_first (join_tests f g room) (search le-ltb) in
     sound_all (verdict f) (verdict g) (first (join_tests f g room)) a.first_sound a.second_sound own
 
@@ -125,12 +125,12 @@ module _ (f g out : List ℕ) (v : judged f g (length out) ≡ Passed) where
   joining-first = omega (arith, first_is)
 
   -- And the second.
-  pub joining-second : 23 ≤ length g
-  joining-second = omega (arith, second_is)
+  pub joining_second : 23 ≤ length g
+  joining_second = omega (arith, second_is)
 
   -- And the header written.
-  pub joining-room : (mid next : List ℕ) → length mid ≡ length out → length next ≡ length mid → 23 ≤ length next
-  joining-room mid next d e = omega (arith, able.fits)
+  pub joining_room : (mid next : List ℕ) → length mid ≡ length out → length next ≡ length mid → 23 ≤ length next
+  joining_room mid next d e = omega (arith, able.fits)
 
   -- The items of the second file can be read.
   pub joining_reads_more : {b : Header} → b ≡ header g → 23 + 19 * b.items ≤ length g
@@ -142,8 +142,8 @@ module _ (f g out : List ℕ) (v : judged f g (length out) ≡ Passed) where
     joining_reads = rw p (omega (arith, first_is))
 
     -- And they can be written.
-    pub joining-fits : 23 + 19 * (0 + a.items) ≤ length out
-    joining-fits = rw p (omega (arith, able.fits))
+    pub joining_fits : 23 + 19 * (0 + a.items) ≤ length out
+    joining_fits = rw p (omega (arith, able.fits))
 
     module _ {b : Header} (q : b ≡ header g) where
       -- Those of the second can be written behind them.
@@ -151,17 +151,17 @@ module _ (f g out : List ℕ) (v : judged f g (length out) ≡ Passed) where
       joining_fits_more next e = rw (p, q) (omega (arith, able.fits))
 
       -- The output holds the file.
-      pub joining-file : {h : Header} → h ≡ joined_header f g → {mid next last : List ℕ} → mid ≡ sets out (23 + 19 * 0) (encode_items (items_from f 0 a.items))
+      pub joining_file : {h : Header} → h ≡ joined_header f g → {mid next last : List ℕ} → mid ≡ sets out (23 + 19 * 0) (encode_items (items_from f 0 a.items))
           → next ≡ sets mid (23 + 19 * a.items) (encode_items (items_from g 0 b.items)) → last ≡ sets next 0 (encode_header h) → last ≡ over (joined_file f g) out
       unfolding joined_file
-      joining-file {h = h} d {mid = mid} {next = next} m n l =
+      joining_file {h = h} d {mid = mid} {next = next} m n l =
           let s = items_from f 0 a.items in
           let t = items_from g 0 b.items in
-          let u : Wrote 0 s out mid = record { bytes-are = m } in
-          let w : Wrote a.items t mid next = record { bytes-are = n } in
+          let u : Wrote 0 s out mid = record { bytes_are = m } in
+          let w : Wrote a.items t mid next = record { bytes_are = n } in
           let both : Wrote 0 (s ++ t) out next = wrote_then u (omega (arith, length_from f 0 a.items)) w in
           let room : 23 + 19 * length (s ++ t) ≤ length out = rw (length-append, length_from f 0, length_from g 0, p, q) able.fits in
-          wrote-file h both room l ∙ rw (d, p, q, ← items-from f, ← items-from g)
+          wrote_file h both room l ∙ rw (d, p, q, ← items_from_lem f, ← items_from_lem g)
 
 -- ---- the answer
 

@@ -12,7 +12,7 @@ use Rattle.limits.specs.declared.Items.{Items}
 use Rattle.limits.specs.declared.ItemsMade.{ItemsMade}
 use Rattle.limits.specs.declared.ItemsMade.TheVariants as made
 use Rattle.limits.proofs.Numbers.{items_least, items_most}
-use Rattle.limits.proofs.Made.{items-ready, items_outside}
+use Rattle.limits.proofs.Made.{items_ready, items_outside}
 use Rattle.trace.specs.Layout.{header, item_at}
 use Rattle.trace.specs.Refusals.{row, of_second}
 use Rattle.trace.specs.Verdict.{first}
@@ -89,7 +89,7 @@ module _ (f g : List ℕ) {h : Header} (q : h ≡ joined_header f g) where
 
   module _ {r : ItemsMade} (e : r ≡ items_of items_least items_most h.items) (x : Items) (o : r ≡ made.Ready x) where
     few : between items_least items_most (joined_header f g).items ≡ true
-    few = rw (← q) (items-ready items_least items_most h.items (sym o ∙ e)).0
+    few = rw (← q) (items_ready items_least items_most h.items (sym o ∙ e)).0
 
     -- There are too many references.
     pub large_references : 4294967295 < h.references → too_large f g ≡ true
@@ -119,20 +119,20 @@ module _ (f g : List ℕ) (room : ℕ) {v : Verdict} (e : v ≡ verdict f) where
 
   module _ (s : v ≡ Sound) {w : Verdict} (u : w ≡ verdict g) where
     -- The second is.
-    pub second-refused : {r : Reason} {a b : Refusal} → w ≡ Faulty r → a ≡ row r → b ≡ of_second a → Failed b ≡ judged f g room
+    pub second_refused : {r : Reason} {a b : Refusal} → w ≡ Faulty r → a ≡ row r → b ≡ of_second a → Failed b ≡ judged f g room
     unfolding judged
-    second-refused q t o = rw (← e, s, ← u, q, o, t, judged)
+    second_refused q t o = rw (← e, s, ← u, q, o, t, judged)
 
     module _ (p : w ≡ Sound) {x : Verdict} (d : x ≡ first (join_tests f g room)) where
       -- Both are sound, and the join is refused.
-      pub both-refused : {r : Reason} {a : Refusal} → x ≡ Faulty r → a ≡ row r → Failed a ≡ judged f g room
+      pub both_refused : {r : Reason} {a : Refusal} → x ≡ Faulty r → a ≡ row r → Failed a ≡ judged f g room
       unfolding judged
-      both-refused q t = rw (← e, s, ← u, p, ← d, q, t, judged)
+      both_refused q t = rw (← e, s, ← u, p, ← d, q, t, judged)
 
       -- Nothing is refused.
-      pub none-refused : x ≡ Sound → Passed ≡ judged f g room
+      pub none_refused : x ≡ Sound → Passed ≡ judged f g room
       unfolding judged
-      none-refused q = rw (← e, s, ← u, p, ← d, q, judged)
+      none_refused q = rw (← e, s, ← u, p, ← d, q, judged)
 
 -- The verdict that the code holds is the file's.
 pub is_sound : (f : List ℕ) {v : Verdict} → v ≡ verdict f → v ≡ Sound → verdict f ≡ Sound

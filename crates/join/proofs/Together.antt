@@ -27,16 +27,16 @@ kind_by_lem false true false false = refl
 kind_by_lem false false false true = refl
 kind_by_lem false false false false = refl
 
-kinds-append : (ks ls : List ℕ) → joined_kind (kind_of_all ks) (kind_of_all ls) ≡ kind_of_all (ks ++ ls)
+kinds_append : (ks ls : List ℕ) → joined_kind (kind_of_all ks) (kind_of_all ls) ≡ kind_of_all (ks ++ ls)
 unfolding kind_of_all
-kinds-append ks ls = rw (has_join 2 ks ls, has_join 1 ks ls) (kind_by_lem (has 2 ks) (has 1 ks) (has 2 ls) (has 1 ls))
+kinds_append ks ls = rw (has_join 2 ks ls, has_join 1 ks ls) (kind_by_lem (has 2 ks) (has 1 ks) (has 2 ls) (has 1 ls))
 
-kind-one : (k : ℕ) → k ≤ 2 → k ≡ kind_of_all (k ∷ [])
+kind_one : (k : ℕ) → k ≤ 2 → k ≡ kind_of_all (k ∷ [])
 unfolding kind_of_all has
-kind-one zero h = refl
-kind-one (suc zero) h = refl
-kind-one (suc (suc zero)) h = refl
-kind-one (suc (suc (suc k))) h = absurd (omega arith)
+kind_one zero h = refl
+kind_one (suc zero) h = refl
+kind_one (suc (suc zero)) h = refl
+kind_one (suc (suc (suc k))) h = absurd (omega arith)
 
 -- ---- the largest, and the sum
 
@@ -53,10 +53,10 @@ total-append (m ∷ ms) ns = omega (arith, total-append ms ns)
 -- ---- headers
 
 -- The header of one file is its own.
-pub header-one : (f : List ℕ) → Facts (header f) → header f ≡ header_of_all (f ∷ [])
+pub header_one : (f : List ℕ) → Facts (header f) → header f ≡ header_of_all (f ∷ [])
 unfolding header_of_all largest total
-header-one f w =
-    let k = kind-one (header f).kind w.kinds in
+header_one f w =
+    let k = kind_one (header f).kind w.kinds in
     let b : (header f).filter ≡ max (header f).filter 0 = omega arith in
     let r : (header f).references ≡ (header f).references + 0 = omega arith in
     let n : (header f).items ≡ (header f).items + 0 = omega arith in
@@ -64,23 +64,23 @@ header-one f w =
 
 -- Each value of the header of two rows of files is that of the two rows' headers, joined.
 module _ (fs gs : List (List ℕ)) where
-  kind-together : joined_kind (header_of_all fs).kind (header_of_all gs).kind ≡ (header_of_all (fs ++ gs)).kind
+  kind_together : joined_kind (header_of_all fs).kind (header_of_all gs).kind ≡ (header_of_all (fs ++ gs)).kind
   unfolding header_of_all
-  kind-together = rw map-append (kinds-append _ _)
+  kind_together = rw map-append (kinds_append _ _)
 
-  filter-together : max (header_of_all fs).filter (header_of_all gs).filter ≡ (header_of_all (fs ++ gs)).filter
+  filter_together : max (header_of_all fs).filter (header_of_all gs).filter ≡ (header_of_all (fs ++ gs)).filter
   unfolding header_of_all
-  filter-together = rw map-append (largest-append _ _)
+  filter_together = rw map-append (largest-append _ _)
 
-  pub references-together : (header_of_all fs).references + (header_of_all gs).references ≡ (header_of_all (fs ++ gs)).references
+  pub references_together : (header_of_all fs).references + (header_of_all gs).references ≡ (header_of_all (fs ++ gs)).references
   unfolding header_of_all
-  references-together = rw map-append (total-append _ _)
+  references_together = rw map-append (total-append _ _)
 
-  pub items-together : (header_of_all fs).items + (header_of_all gs).items ≡ (header_of_all (fs ++ gs)).items
+  pub items_together : (header_of_all fs).items + (header_of_all gs).items ≡ (header_of_all (fs ++ gs)).items
   unfolding header_of_all
-  items-together = rw map-append (total-append _ _)
+  items_together = rw map-append (total-append _ _)
 
   -- So the header of what two rows of files come to is the header of both rows.
-  pub header-both : (f g : List ℕ) → header f ≡ header_of_all fs → header g ≡ header_of_all gs → joined_header f g ≡ header_of_all (fs ++ gs)
+  pub header_both : (f g : List ℕ) → header f ≡ header_of_all fs → header g ≡ header_of_all gs → joined_header f g ≡ header_of_all (fs ++ gs)
   unfolding joined_header
-  header-both f g p q = rw (p, q, kind-together, filter-together, references-together, items-together)
+  header_both f g p q = rw (p, q, kind_together, filter_together, references_together, items_together)

@@ -5,22 +5,22 @@ use mathlib.Core.List.{List, ◌++◌, map, map-append}
 use native.Mathlib.Omega.{arith}
 use lib.ListN.{length}
 use Rattle.limits.proofs.Numbers.{items_most}
-use Rattle.pages.proofs.Rows.{all_parts, flat_append, flat-one}
+use Rattle.pages.proofs.Rows.{all_parts, flat_append, flat_one}
 use Rattle.trace.specs.Layout.{header, items}
 use Rattle.trace.specs.Rules.{Rising}
 use Rattle.trace.specs.Promises.{IsFile}
-use Rattle.trace.proofs.Accepted.{accepted-header, accepted-long, accepted_facts, is_determined, same_file}
+use Rattle.trace.proofs.Accepted.{accepted_header, accepted_long, accepted_facts, is_determined, same_file}
 use Rattle.trace.proofs.Append.{rising_parts}
-use Rattle.trace.proofs.Checking.{accepted-verdict}
-use Rattle.trace.proofs.Octets.{octets-file}
+use Rattle.trace.proofs.Checking.{accepted_verdict}
+use Rattle.trace.proofs.Octets.{octets_file}
 use Rattle.join.specs.Join.{joined_header, joined_file, judged}
 use Rattle.join.specs.Trees.{Tree, files, joined, items_of_all, SumsFit, Joins, header_of_all, IsJoinedTree, JoinsTrees, SumsAreEnough, JoinsAssociate}
 use Rattle.join.specs.Trees.Tree.{one, both}
 use Rattle.join.specs.declared.Judged.TheVariants.{Passed}
 use Rattle.join.proofs.Joining.{joinable_passed, join_written, join_file}
-use Rattle.join.proofs.Meeting.{joined-rising}
-use Rattle.join.proofs.Accepted.{writes-joined}
-use Rattle.join.proofs.Together.{header-one, header-both, items-together, references-together}
+use Rattle.join.proofs.Meeting.{joined_rising}
+use Rattle.join.proofs.Accepted.{writes_joined}
+use Rattle.join.proofs.Together.{header_one, header_both, items_together, references_together}
 
 -- ---- two files
 
@@ -28,11 +28,11 @@ module _ (f g : List ℕ) (a : IsFile f) (b : IsFile g) (r : Rising 0 (items f +
   -- With room for the joined file the join is not refused.
   passes : (room : ℕ) → 23 + 19 * ((header f).items + (header g).items) ≤ room → judged f g room ≡ Passed
   passes room fits = joinable_passed f g room (record {
-    first_sound = accepted-verdict f (header f) a.accepted;
-    second_sound = accepted-verdict g (header g) b.accepted;
-    meets = joined-rising f g r;
-    few = s.items-few;
-    references-few = s.references-few;
+    first_sound = accepted_verdict f (header f) a.accepted;
+    second_sound = accepted_verdict g (header g) b.accepted;
+    meets = joined_rising f g r;
+    few = s.items_few;
+    references_few = s.references_few;
     fits = fits;
   })
 
@@ -41,16 +41,16 @@ module _ (f g : List ℕ) (a : IsFile f) (b : IsFile g) (r : Rising 0 (items f +
   unfolding joined_file
   written =
       let room = 23 + 19 * ((header f).items + (header g).items) in
-      let w = writes-joined f g room a.bytes b.bytes (passes room (omega arith)) in
-      let h = accepted-header (joined_file f g) (joined_header f g) w.accepted in
-      (record { bytes = octets-file (joined_header f g) _; accepted = rw h w.accepted }, h, w.items-are)
+      let w = writes_joined f g room a.bytes b.bytes (passes room (omega arith)) in
+      let h = accepted_header (joined_file f g) (joined_header f g) w.accepted in
+      (record { bytes = octets_file (joined_header f g) _; accepted = rw h w.accepted }, h, w.items_are)
 
   -- It is as long as its items say.
   long : length (joined_file f g) ≡ 23 + 19 * ((header f).items + (header g).items)
   unfolding joined_header
   long =
       let (w, h, _) = written in
-      rw h at (accepted-long (joined_file f g) (header (joined_file f g)) w.accepted)
+      rw h at (accepted_long (joined_file f g) (header (joined_file f g)) w.accepted)
 
   -- So no join of the two is refused that has room for it.
   joins : Joins f g
@@ -61,8 +61,8 @@ module _ (f g : List ℕ) (a : IsFile f) (b : IsFile g) (r : Rising 0 (items f +
 
 -- ---- rows of files
 
-items-both : (fs gs : List (List ℕ)) → items_of_all (fs ++ gs) ≡ items_of_all fs ++ items_of_all gs
-items-both fs gs = rw (map-append items fs gs, flat_append (map items fs) (map items gs))
+items_both : (fs gs : List (List ℕ)) → items_of_all (fs ++ gs) ≡ items_of_all fs ++ items_of_all gs
+items_both fs gs = rw (map-append items fs gs, flat_append (map items fs) (map items gs))
 
 -- ---- trees
 
@@ -72,22 +72,22 @@ unfolding files joined
 tree_one f a = record {
   all_join = tt;
   is_file = a;
-  header_is = header-one f (accepted_facts f (header f) a.accepted);
-  items-are = sym (flat-one (items f));
+  header_is = header_one f (accepted_facts f (header f) a.accepted);
+  items_are = sym (flat_one (items f));
 }
 
 -- Two trees, whose files' times do not fall, with sums that fit.
 tree_both : (l r : Tree) → IsJoinedTree l → IsJoinedTree r → Rising 0 (items_of_all (files l ++ files r)) → SumsFit (joined l) (joined r) → IsJoinedTree (both l r)
 unfolding files joined
 tree_both l r a b up s =
-    let both-items : items (joined l) ++ items (joined r) ≡ items_of_all (files l ++ files r) = rw (a.items-are, b.items-are, items-both (files l) (files r)) in
+    let both-items : items (joined l) ++ items (joined r) ≡ items_of_all (files l ++ files r) = rw (a.items_are, b.items_are, items_both (files l) (files r)) in
     let rises : Rising 0 (items (joined l) ++ items (joined r)) = rw both-items up in
     let (w, h, i) = written (joined l) (joined r) a.is_file b.is_file rises s in
     record {
       all_join = (joins (joined l) (joined r) a.is_file b.is_file rises s, a.all_join, b.all_join);
       is_file = w;
-      header_is = h ∙ header-both (files l) (files r) (joined l) (joined r) a.header_is b.header_is;
-      items-are = i ∙ both-items;
+      header_is = h ∙ header_both (files l) (files r) (joined l) (joined r) a.header_is b.header_is;
+      items_are = i ∙ both-items;
     }
 
 -- ---- the promises
@@ -98,7 +98,7 @@ unfolding files
 joins_trees (one f) a up w = tree_one f a.0
 joins_trees (both l r) a up w =
     let (p, q) = all_parts IsFile (files l) (files r) a in
-    let (u, v) = rising_parts 0 (items_of_all (files l)) (items_of_all (files r)) (rw (items-both (files l) (files r)) at up) in
+    let (u, v) = rising_parts 0 (items_of_all (files l)) (items_of_all (files r)) (rw (items_both (files l) (files r)) at up) in
     tree_both l r (joins_trees l p u w.1) (joins_trees r q v w.2) up w.0
 
 -- Sums of some of the files are no larger than those of all.
@@ -107,14 +107,14 @@ unfolding files
 sums_enough (one f) a up n m = tt
 sums_enough (both l r) a up n m =
     let (p, q) = all_parts IsFile (files l) (files r) a in
-    let (u, v) = rising_parts 0 (items_of_all (files l)) (items_of_all (files r)) (rw (items-both (files l) (files r)) at up) in
-    let i = items-together (files l) (files r) in
-    let j = references-together (files l) (files r) in
+    let (u, v) = rising_parts 0 (items_of_all (files l)) (items_of_all (files r)) (rw (items_both (files l) (files r)) at up) in
+    let i = items_together (files l) (files r) in
+    let j = references_together (files l) (files r) in
     let x = sums_enough l p u (omega arith) (omega arith) in
     let y = sums_enough r q v (omega arith) (omega arith) in
     let a = joins_trees l p u x in
     let b = joins_trees r q v y in
-    (record { items-few = rw (a.header_is, b.header_is) (omega arith); references-few = rw (a.header_is, b.header_is) (omega arith) }, x, y)
+    (record { items_few = rw (a.header_is, b.header_is) (omega arith); references_few = rw (a.header_is, b.header_is) (omega arith) }, x, y)
 
 -- The same files in the same order, in any two bracketings.
 pub joins_associate : JoinsAssociate
@@ -122,10 +122,10 @@ joins_associate s t e a up w =
     let j = joins_trees s a up w in
     let f = joined s in
     let few : (header f).items ≤ items_most = (accepted_facts f (header f) j.is_file.accepted).few in
-    let fit = (is_determined f (header f) j.is_file.bytes j.is_file.accepted).keeps_rules.references-fit in
+    let fit = (is_determined f (header f) j.is_file.bytes j.is_file.accepted).keeps_rules.references_fit in
     let h : header f ≡ header_of_all (files t) = rw e at j.header_is in
     let x = sums_enough t (rw e at a) (rw e at up) (rw (← h) few) (rw (← h) (omega arith)) in
     let k = joins_trees t (rw e at a) (rw e at up) x in
     let same : header (joined t) ≡ header f = k.header_is ∙ sym h in
-    let items_same : items f ≡ items (joined t) = j.items-are ∙ rw e (sym k.items-are) in
+    let items_same : items f ≡ items (joined t) = j.items_are ∙ rw e (sym k.items_are) in
     (x, same_file f (joined t) (header f) j.is_file.bytes k.is_file.bytes j.is_file.accepted (rw same at k.is_file.accepted) items_same)

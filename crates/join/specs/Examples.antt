@@ -120,9 +120,9 @@ references = refl
 
 -- "Items over 1,000,000": two files of together so many items are too long to be computed here (the join of such files is tried in
 -- `rust/compare/tests/full_size.rs`), but the test asks only their headers. 600,000 items take 400,000 more and not 400,001.
-items-over : map (λ (n : ℕ). too_large (encode_header (whole 600000)) (encode_header (whole n))) (400000 ∷ 400001 ∷ []) ≡ false ∷ true ∷ []
+items_over : map (λ (n : ℕ). too_large (encode_header (whole 600000)) (encode_header (whole n))) (400000 ∷ 400001 ∷ []) ≡ false ∷ true ∷ []
 unfolding too_large joined_header encode_header field bytes header number_at number
-items-over = refl
+items_over = refl
 
 -- And with no room at all that is refused 13, which comes before 11.
 items_before_room : first (join_tests (encode_header (whole 600000)) (encode_header (whole 400001)) 0) ≡ Faulty JoinTooLarge
@@ -152,7 +152,7 @@ unfolding join_answer judged
 second = refl
 
 -- The first file's refusals have trace 1, and come before the second's, though that has the lower number here.
-first-file : map (λ (f : List ℕ). join_answer f (take 22 later) 0) (
+first_file : map (λ (f : List ℕ). join_answer f (take 22 later) 0) (
     set later 3 3
     ∷ set (file 0 0 2 (3 at 5 ∷ 4 at 6 ∷ [])) 42 7
     ∷ file 0 0 2 (3 at 5 ∷ 4 at 4 ∷ [])
@@ -164,7 +164,7 @@ first-file : map (λ (f : List ℕ). join_answer f (take 22 later) 0) (
     ∷ []
 unfolding join_answer judged
     encode encode_header encode_items encode_item tag_of field bytes verdict first ◌then◌ items_verdict is_field is_item allowed header item number_at number
-first-file = refl
+first_file = refl
 
 -- ---- "then 12, 13, 11"
 

@@ -10,7 +10,7 @@ use Rattle.join.specs.Join.{joined_header, joined_file, judged}
 -- The joined file is accepted, with the header that is answered, and its items are the two files' items in order.
 pub record IsJoined (f g : List ℕ) : Type 0 where
   pub accepted : checked (joined_file f g) ≡ Accepted (joined_header f g)
-  pub items-are : items (joined_file f g) ≡ items f ++ items g
+  pub items_are : items (joined_file f g) ≡ items f ++ items g
 
 -- Wherever the join is not refused.
 abbrev pub WritesJoined : Type 0

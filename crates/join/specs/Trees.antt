@@ -36,8 +36,8 @@ items_of_all fs = flat (map items fs)
 
 -- The two sums of refusal 13 are within its limits: not "items over 1,000,000 or references over 4,294,967,295".
 pub record SumsFit (f g : List ℕ) : Type 0 where
-  pub items-few : (header f).items + (header g).items ≤ items_most
-  pub references-few : (header f).references + (header g).references ≤ 2 ^ 32 - 1
+  pub items_few : (header f).items + (header g).items ≤ items_most
+  pub references_few : (header f).references + (header g).references ≤ 2 ^ 32 - 1
 
 -- The sums fit at each join of a tree.
 abbrev pub Within : Tree → Type 0
@@ -83,7 +83,7 @@ pub record IsJoinedTree (t : Tree) : Type 0 where
   pub all_join : AllJoin t
   pub is_file : IsFile (joined t)
   pub header_is : header (joined t) ≡ header_of_all (files t)
-  pub items-are : items (joined t) ≡ items_of_all (files t)
+  pub items_are : items (joined t) ≡ items_of_all (files t)
 
 -- Files whose times never fall from one to the next, joined in any bracketing within the limits.
 abbrev pub JoinsTrees : Type 0

@@ -29,8 +29,8 @@ module _ {A : Type 0} (b : Bool) (x y : A) {r : A} (e : r ≡ cond b x y) where
 -- ---- and so of a filter, a cache, a count of items and an input
 
 module _ (least most n : ℕ) where
-  pub filter-ready : {x : Filter} → filter.Ready x ≡ filter_of least most n → (between least most n ≡ true) × (x.size ≡ n)
-  filter-ready e =
+  pub filter_ready : {x : Filter} → filter.Ready x ≡ filter_of least most n → (between least most n ≡ true) × (x.size ≡ n)
+  filter_ready e =
       let q = was_ready (between least most n) (filter.Ready (record { size = n })) filter.Outside e (λ p. cc) in
       (q.0, cc)
 
@@ -45,8 +45,8 @@ module _ (least most n : ℕ) where
   pub cache_outside : cache.Outside ≡ cache_of least most n → between least most n ≡ false
   cache_outside e = was_outside (between least most n) (cache.Ready (record { size = n })) cache.Outside e (λ p. cc)
 
-  pub items-ready : {x : Items} → items.Ready x ≡ items_of least most n → (between least most n ≡ true) × (x.count ≡ n)
-  items-ready e =
+  pub items_ready : {x : Items} → items.Ready x ≡ items_of least most n → (between least most n ≡ true) × (x.count ≡ n)
+  items_ready e =
       let q = was_ready (between least most n) (items.Ready (record { count = n })) items.Outside e (λ p. cc) in
       (q.0, cc)
 

@@ -18,8 +18,8 @@ use Rattle.limits.proofs.Input.new.Reads.{Post as input_post}
 use Rattle.limits.proofs.Input.length.Kinds as input_length
 use Rattle.limits.proofs.Input.length.Reads.{Post as input_length_post}
 
-pub filter-once : OneResult filter.ps filter.r filter_post
-filter-once κs args x y s t p q = p ∙ sym q
+pub filter_once : OneResult filter.ps filter.r filter_post
+filter_once κs args x y s t p q = p ∙ sym q
 
 pub filter_size_once : OneResult filter-size.ps filter-size.r filter_size_post
 filter_size_once κs args x y s t p q = p ∙ sym q
@@ -30,8 +30,8 @@ cache_once κs args x y s t p q = p ∙ sym q
 pub cache_size_once : OneResult cache_size.ps cache_size.r cache_size_post
 cache_size_once κs args x y s t p q = p ∙ sym q
 
-pub items-once : OneResult items.ps items.r items_post
-items-once κs args x y s t p q = p ∙ sym q
+pub items_once : OneResult items.ps items.r items_post
+items_once κs args x y s t p q = p ∙ sym q
 
 pub items_count_once : OneResult items-count.ps items-count.r items_count_post
 items_count_once κs args x y s t p q = p ∙ sym q

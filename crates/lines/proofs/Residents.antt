@@ -17,16 +17,16 @@ init_few [] = omega arith
 init_few (f ∷ []) = omega arith
 init_few (f ∷ g ∷ s) = omega (arith, init_few (g ∷ s))
 
-step-few : (K : ℕ) (s : List Frame) (i : Item) → length (step K s i).final ≤ length s + length (step K s i).events
+step_few : (K : ℕ) (s : List Frame) (i : Item) → length (step K s i).final ≤ length s + length (step K s i).events
 unfolding step hit fetch
-step-few K s i =
+step_few K s i =
     split (has i.page (pages_of s))
     (λ h. rw h (omega (arith, taken-count i.page s h)))
     (λ h. split (ltb (length s) K) (λ l. rw (h, l) (omega arith)) (λ l. rw (h, l) (omega (arith, init_few s))))
 
-pub residents-few : (K : ℕ) (s : List Frame) (t : List Item) → length (replay K s t).final ≤ length s + length (replay K s t).events
+pub residents_few : (K : ℕ) (s : List Frame) (t : List Item) → length (replay K s t).final ≤ length s + length (replay K s t).events
 unfolding replay ◌then◌
-residents-few K s [] = omega arith
-residents-few K s (i ∷ t) =
+residents_few K s [] = omega arith
+residents_few K s (i ∷ t) =
     let o = step K s i in
-    rw length-append (omega (arith, step-few K s i, residents-few K o.final t))
+    rw length-append (omega (arith, step_few K s i, residents_few K o.final t))

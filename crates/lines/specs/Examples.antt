@@ -99,13 +99,13 @@ unfolding replay_program replay_text replay_verdict replay_of summary_of report 
 nothing_replayed = refl
 
 -- `refused 7 trace 1 item 0` for cache size 0, and `refused 15 trace 1 item 0` for the settings of a reduction.
-replay-refusals : map replay_program (played 0 file_T ∷ asked 2 2 ∷ [])
+replay_refusals : map replay_program (played 0 file_T ∷ asked 2 2 ∷ [])
     ≡ (114 ∷ 101 ∷ 102 ∷ 117 ∷ 115 ∷ 101 ∷ 100 ∷ 32 ∷ 55 ∷ 32 ∷ 116 ∷ 114 ∷ 97 ∷ 99 ∷ 101 ∷ 32 ∷ 49 ∷ 32 ∷ 105 ∷ 116 ∷ 101 ∷ 109 ∷ 32 ∷ 48 ∷ 10 ∷ [])
     ∷ (114 ∷ 101 ∷ 102 ∷ 117 ∷ 115 ∷ 101 ∷ 100 ∷ 32 ∷ 49 ∷ 53 ∷ 32 ∷ 116 ∷ 114 ∷ 97 ∷ 99 ∷ 101 ∷ 32 ∷ 49 ∷ 32 ∷ 105 ∷ 116 ∷ 101 ∷ 109 ∷ 32 ∷ 48 ∷ 10 ∷ [])
     ∷ []
 unfolding replay_program replay_text replay_verdict refusal_line bad_start twice has verdict first ◌then◌ items_verdict is_field is_item allowed header items items_of item number_at number
     digits leading encode encode_header encode_items encode_item tag_of field bytes
-replay-refusals = refl
+replay_refusals = refl
 
 -- An input of 32,769 bytes is refused 16; one of 32,768 is not, and these are no settings.
 long_inputs : map (λ (n : ℕ). replay_program (replicate n 0)) (32769 ∷ 32768 ∷ [])

@@ -26,26 +26,26 @@ pub counted_is : (t : Tally) (f e : Bool) {a b : ℕ} → a ≡ one_of f → b �
 counted_is t f e p q = rw (p, q)
 
 -- A test counts at most once.
-pub one-most : (b : Bool) → one_of b ≤ 1
-one-most true = omega arith
-one-most false = omega arith
+pub one_most : (b : Bool) → one_of b ≤ 1
+one_most true = omega arith
+one_most false = omega arith
 
 -- Events that two flags count: at most one event.
 pub record Flagged (es : List Event) : Type 0 where
-  pub fetches-are : length es ≡ one_of (is_fetch es)
-  pub evictions-are : evictions es ≡ one_of (is_eviction es)
+  pub fetches_are : length es ≡ one_of (is_fetch es)
+  pub evictions_are : evictions es ≡ one_of (is_eviction es)
 
 flagged : (i : Item) (e : Option Frame) → Flagged (fetched i e)
 unfolding evictions is_fetch is_eviction
-flagged i none = record { fetches-are = refl; evictions-are = refl }
-flagged i (some p) = record { fetches-are = refl; evictions-are = refl }
+flagged i none = record { fetches_are = refl; evictions_are = refl }
+flagged i (some p) = record { fetches_are = refl; evictions_are = refl }
 
 -- The two flags of an item count its events.
-pub step-flagged : (K : ℕ) (s : List Frame) (i : Item) → Flagged (step K s i).events
+pub step_flagged : (K : ℕ) (s : List Frame) (i : Item) → Flagged (step K s i).events
 unfolding step hit fetch evictions is_fetch is_eviction
-step-flagged K s i =
+step_flagged K s i =
     split (has i.page (pages_of s))
-    (λ h. rw h (record { fetches-are = refl; evictions-are = refl }))
+    (λ h. rw h (record { fetches_are = refl; evictions_are = refl }))
     (λ h. split (ltb (length s) K) (λ l. rw (h, l) (flagged i none)) (λ l. rw (h, l) (flagged i (get_last? s))))
 
 -- ---- a trace
@@ -57,9 +57,9 @@ evictions-append (e ∷ a) b = rw (evictions-append a b, add_assoc)
 
 -- A tally c moves on to d, by the items t and the events es.
 pub record MovesOn (c d : Tally) (t : List Item) (es : List Event) : Type 0 where
-  pub items-are : d.items ≡ c.items + length t
-  pub fetches-are : d.fetches ≡ c.fetches + length es
-  pub evictions-are : d.evictions ≡ c.evictions + evictions es
+  pub items_are : d.items ≡ c.items + length t
+  pub fetches_are : d.fetches ≡ c.fetches + length es
+  pub evictions_are : d.evictions ≡ c.evictions + evictions es
 
 -- From any tally, a trace counts its items and its events, and of these the evictions.
 pub tally_moves : (K : ℕ) (s : List Frame) (c : Tally) (t : List Item) → MovesOn c (tally K s c t) t (replay K s t).events
@@ -67,9 +67,9 @@ unfolding tally tallied replay ◌then◌ evictions
 tally_moves K s c [] = omega arith
 tally_moves K s c (i ∷ t) =
     let o = step K s i in
-    let f = step-flagged K s i in
+    let f = step_flagged K s i in
     let m = tally_moves K o.final (tallied c o) t in
-    record { items-are = omega arith; fetches-are = rw length-append (omega arith); evictions-are = rw evictions-append (omega arith) }
+    record { items_are = omega arith; fetches_are = rw length-append (omega arith); evictions_are = rw evictions-append (omega arith) }
 
 -- From nothing, the counts are those of the trace.
 pub tally_counts : TallyCounts
@@ -86,20 +86,20 @@ per_million_lem fetches (suc n) h =
     (div-mul-le_self x (suc n), (div-lt_iff_lt-mul h).0 (omega arith))
 
 -- A trace has no more fetches than items.
-pub fetches-few : (K : ℕ) (s : List Frame) (t : List Item) → length (replay K s t).events ≤ length t
+pub fetches_few : (K : ℕ) (s : List Frame) (t : List Item) → length (replay K s t).events ≤ length t
 unfolding replay ◌then◌
-fetches-few K s [] = omega arith
-fetches-few K s (i ∷ t) =
+fetches_few K s [] = omega arith
+fetches_few K s (i ∷ t) =
     let o = step K s i in
-    omega (arith, length-append o.events (replay K o.final t).events, (step-flagged K s i).fetches-are, one-most (is_fetch o.events), fetches-few K o.final t)
+    omega (arith, length-append o.events (replay K o.final t).events, (step_flagged K s i).fetches_are, one_most (is_fetch o.events), fetches_few K o.final t)
 
 -- ---- per million
 
-pub rate-none : (fetches items : ℕ) → items ≡ 0 → 0 ≡ per_million fetches items
+pub rate_none : (fetches items : ℕ) → items ≡ 0 → 0 ≡ per_million fetches items
 unfolding per_million
-rate-none fetches items e = rw e
+rate_none fetches items e = rw e
 
-pub rate-some : (fetches items : ℕ) → (items ≡ 0 → ⊥) → fetches * 1000000 / items ≡ per_million fetches items
+pub rate_some : (fetches items : ℕ) → (items ≡ 0 → ⊥) → fetches * 1000000 / items ≡ per_million fetches items
 unfolding per_million
-rate-some fetches zero n = absurd (n refl)
-rate-some fetches (suc k) n = refl
+rate_some fetches zero n = absurd (n refl)
+rate_some fetches (suc k) n = refl

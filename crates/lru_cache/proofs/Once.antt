@@ -19,4 +19,4 @@ pub run_marks_once : OneBuffer run.ps run.r run_post (λ κs s. s.1.1.1.1.0.now)
 run_marks_once κs args x y s t p q = p.kept_is ∙ sym q.kept_is
 
 pub run_events_once : OneBuffer run.ps run.r run_post (λ κs s. s.1.1.1.1.1.1.0.now)
-run_events_once κs args x y s t p q = p.events-are ∙ sym q.events-are
+run_events_once κs args x y s t p q = p.events_are ∙ sym q.events_are

@@ -31,7 +31,7 @@ module _ {f : List ℕ} {n K m : ℕ} {cache : List ℕ} {kept : List Bool} {eve
         marks = rw (length-take, length-take, can.marks);
         few = omega (arith, few, can.most, rows.log_long);
         small = rows.small;
-        next-long = rows.next-long;
+        next_long = rows.next_long;
         stale_long = rows.stale_long;
         heads_long = rows.heads_long;
         once = can.once;
@@ -40,7 +40,7 @@ module _ {f : List ℕ} {n K m : ℕ} {cache : List ℕ} {kept : List Bool} {eve
   module _ {log' next' stale' heads' : List ℕ} {q : Queue} (h : Holds (frames_of (take (m - 0) cache) (take (m - 0) kept)) log' next' stale' heads' q)
       (same : length log' ≡ length log) where
     start : frames log' stale' q ≡ take m (frames_of cache kept)
-    start = h.frames-are ∙ rw sub-zero (frames-take m cache kept)
+    start = h.frames_are ∙ rw sub-zero (frames-take m cache kept)
 
     fits : length (take m (frames_of cache kept)) ≤ K
     fits = rw length-take (omega (arith, can.within))
@@ -48,7 +48,7 @@ module _ {f : List ℕ} {n K m : ℕ} {cache : List ℕ} {kept : List Bool} {eve
     -- The items can be taken.
     pub run_play : CanPlay f n K log' next' stale' heads' q events
     run_play = record {
-      file-long = can.file-long;
+      file_long = can.file_long;
       few = can.few;
       ready = record {
         held = h.held;
@@ -72,10 +72,10 @@ module _ {f : List ℕ} {n K m : ℕ} {cache : List ℕ} {kept : List Bool} {eve
       run_done e k =
           let w = rw start at u in
           record {
-            cache_is = e ∙ rw w.holds.frames-are;
-            kept_is = k ∙ rw w.holds.frames-are;
-            events-are = w.events-are;
-            resident_is = sym (length-frames w.holds.held) ∙ ap length w.holds.frames-are;
+            cache_is = e ∙ rw w.holds.frames_are;
+            kept_is = k ∙ rw w.holds.frames_are;
+            events_are = w.events_are;
+            resident_is = sym (length-frames w.holds.held) ∙ ap length w.holds.frames_are;
             tally_is = w.tally_is;
           }
 
@@ -85,7 +85,7 @@ pub rows_kept : {log next stale heads : List ℕ} → Rows log next stale heads 
 rows_kept r next' heads' a b = record {
   log_long = r.log_long;
   small = r.small;
-  next-long = omega (arith, r.next-long);
+  next_long = omega (arith, r.next_long);
   stale_long = r.stale_long;
   heads_long = omega (arith, r.heads_long);
 }

@@ -20,7 +20,7 @@ use Rattle.recency.specs.Linked.{last_from}
 use Rattle.recency.specs.Held.{frames, Holds, CanUse, Gone}
 use Rattle.recency.specs.declared.Queue.{Queue}
 use Rattle.recency.specs.declared.Evicted.{Evicted}
-use Rattle.recency.proofs.Appending.{has-frames, length-frames, gone_held, last-later}
+use Rattle.recency.proofs.Appending.{has-frames, length-frames, gone_held, last_later}
 use Rattle.trace.specs.declared.Item.{Item}
 use Rattle.lru_cache.specs.Lru.{step, hit, fetch, fetched, words, word, cost}
 use Rattle.lru_cache.specs.Tally.{is_fetch, is_eviction}
@@ -39,13 +39,13 @@ module _ (K : ℕ) (x : Item) (s : List Frame) where
     unfolding step fetch
     step_room r = rw (h, lt-ltb (length s) K r)
 
-    step-full : K ≤ length s → step K s x ≡ record { events = fetched x (get_last? s); final = framed x.page x.written ∷ drop_last s }
+    step_full : K ≤ length s → step K s x ≡ record { events = fetched x (get_last? s); final = framed x.page x.written ∷ drop_last s }
     unfolding step fetch
-    step-full f = rw (h, le-ltb (length s) K f)
+    step_full f = rw (h, le-ltb (length s) K f)
 
 -- How many pages the rows hold.
-holds-count : {s : List Frame} {log next stale heads : List ℕ} {q : Queue} → Holds s log next stale heads q → length s ≡ q.resident
-holds-count h = ap length (sym h.frames-are) ∙ length-frames h.held
+holds_count : {s : List Frame} {log next stale heads : List ℕ} {q : Queue} → Holds s log next stale heads q → length s ≡ q.resident
+holds_count h = ap length (sym h.frames_are) ∙ length-frames h.held
 
 -- All but the last of a list that has one.
 init_count : (s : List Frame) → 1 ≤ length s → length (drop_last s) + 1 ≡ length s
@@ -88,7 +88,7 @@ module _ {K f : ℕ} {log next stale heads : List ℕ} {q : Queue} {events : Lis
   away m = has-frames can.ready.held x.page k ∙ le-ltb q.low e m
 
   left : Gone log stale q g → K ≤ q.resident → length (frames log stale g.queue) + 1 ≡ q.resident
-  left gone h = rw gone.frames-are (init_count now (omega (arith, count, can.ready.some)) ∙ count)
+  left gone h = rw gone.frames_are (init_count now (omega (arith, count, can.ready.some)) ∙ count)
 
   -- The page can be used where room was made.
   pub step_use : CanUse log next stale heads g.queue x.page e
@@ -104,7 +104,7 @@ module _ {K f : ℕ} {log next stale heads : List ℕ} {q : Queue} {events : Lis
       let gone = made.full m h in
       record {
         held = gone_held can.ready.held gone;
-        last = rw gone.now_is (last-later q.low g.queue.low log q.now x.page k m gone.from);
+        last = rw gone.now_is (last_later q.low g.queue.low log q.now x.page k m gone.from);
         few = omega (arith, length-frames (gone_held can.ready.held gone), left gone h, can.ready.within, can.ready.small);
       }))
 
@@ -120,8 +120,8 @@ module _ {K f : ℕ} {log next stale heads : List ℕ} {q : Queue} {events : Lis
         rw (step-hit K x now t)
         (record {
           holds = w;
-          within = omega (arith, holds-count w, taken-count x.page now t, count, can.ready.within);
-          events-are = refl;
+          within = omega (arith, holds_count w, taken-count x.page now t, count, can.ready.within);
+          events_are = refl;
           fetched_is = refl;
           evicted_is = refl;
         })
@@ -139,7 +139,7 @@ module _ {K f : ℕ} {log next stale heads : List ℕ} {q : Queue} {events : Lis
           let w = rw (came_in x.page x.written now (away m)) at z in
           let y : c ≡ 0 = rw b at d in
           rw (step_room K x now (away m) (omega (arith, count)))
-          (record { holds = w; within = omega (arith, holds-count w, count); events-are = rw (y, r.1) at t; fetched_is = refl; evicted_is = refl })
+          (record { holds = w; within = omega (arith, holds_count w, count); events_are = rw (y, r.1) at t; fetched_is = refl; evicted_is = refl })
 
       came_full : (b : leb K q.resident ≡ true)
           → Stepped (step K now x) K f events (record { queue = v; fetched = true; evicted = true }) log' next' stale' heads' events'
@@ -148,14 +148,14 @@ module _ {K f : ℕ} {log next stale heads : List ℕ} {q : Queue} {events : Lis
           let h = leb-true K q.resident b in
           let gone = made.full m h in
           let n : has x.page (pages_of (drop_last now)) ≡ false = rw (pages_init now) (has_init x.page (pages_of now) (away m)) in
-          let z = rw gone.frames-are at u in
+          let z = rw gone.frames_are at u in
           let w = rw (came_in x.page x.written (drop_last now) n) at z in
           let y = rw b at d in
-          rw (step-full K x now (away m) (omega (arith, count)), gone.last_is)
+          rw (step_full K x now (away m) (omega (arith, count)), gone.last_is)
           (record {
             holds = w;
-            within = omega (arith, holds-count w, rw gone.frames-are at (left gone h), can.ready.within);
-            events-are = rw y at t;
+            within = omega (arith, holds_count w, rw gone.frames_are at (left gone h), can.ready.within);
+            events_are = rw y at t;
             fetched_is = refl;
             evicted_is = refl;
           })

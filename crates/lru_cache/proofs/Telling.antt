@@ -23,12 +23,12 @@ mark_some true e = omega arith
 mark_some false e = omega arith
 
 -- The third and the fourth number tell what was evicted.
-evicted-told : (a b : Option Frame) → word a ≡ word b → cost a ≡ cost b → a ≡ b
+evicted_told : (a b : Option Frame) → word a ≡ word b → cost a ≡ cost b → a ≡ b
 unfolding word cost
-evicted-told none none p q = refl
-evicted-told none (some g) p q = absurd (mark_some g.written q)
-evicted-told (some f) none p q = absurd (mark_some f.written (sym q))
-evicted-told (some f) (some g) p q =
+evicted_told none none p q = refl
+evicted_told none (some g) p q = absurd (mark_some g.written q)
+evicted_told (some f) none p q = absurd (mark_some f.written (sym q))
+evicted_told (some f) (some g) p q =
     let m = mark_told f.written g.written q in
     ap some (λ k. record { page = p k; written = m k })
 
@@ -43,6 +43,6 @@ words_tell (x ∷ a) (y ∷ b) e =
     let w : word x.evicted ≡ word y.evicted = cc in
     let c : cost x.evicted ≡ cost y.evicted = cc in
     let r : words a ≡ words b = cc in
-    let v = evicted-told x.evicted y.evicted w c in
+    let v = evicted_told x.evicted y.evicted w c in
     let h : x ≡ y = λ k. record { time = t k; page = p k; evicted = v k } in
     rw (h, words_tell a b r)

@@ -17,7 +17,7 @@ use Rattle.lru_cache.specs.Passes.{CanStep, Stepped, CanPlay, Turned, Plays}
 use Rattle.lru_cache.specs.declared.Tally.{Tally}
 use Rattle.lru_cache.specs.declared.Effect.{Effect}
 use Rattle.lru_cache.specs.declared.Played.{Played}
-use Rattle.lru_cache.proofs.Counting.{one-most, step-flagged, tally_counts}
+use Rattle.lru_cache.proofs.Counting.{one_most, step_flagged, tally_counts}
 use Rattle.lru_cache.proofs.Online.{replay_more, tally_more}
 use Rattle.lru_cache.proofs.Words.{words_append, length-words}
 
@@ -36,9 +36,9 @@ turned_then {o} {p} {r = r} {events = events} d s f l =
     record {
       holds = s.holds;
       within = s.within;
-      events-are =
-          s.events-are
-          ∙ rw (n, d.events-are, words_append o.events p.events)
+      events_are =
+          s.events_are
+          ∙ rw (n, d.events_are, words_append o.events p.events)
           (over_more w v events (omega (arith, length-words o.events, length-words p.events)));
       tally_is = rw (d.tally_is, s.fetched_is, s.evicted_is);
     }
@@ -50,14 +50,14 @@ pub record Running (f : List ℕ) (n K : ℕ) (log₀ next₀ stale₀ heads₀ 
     (events₀ log next stale heads events : List ℕ) (t : Tally) (q : Queue) (i : ℕ) : Type 0 where
   pub within : i ≤ n
   pub done : Plays f i K (frames log₀ stale₀ q₀) events₀ (record { tally = t; queue = q }) log next stale heads events
-  pub items-are : t.items ≡ i
+  pub items_are : t.items ≡ i
   pub fetched : t.fetches ≤ i
   pub evicted : t.evictions ≤ i
   pub log_long : length log ≡ length log₀
-  pub next-long : length next ≡ length next₀
+  pub next_long : length next ≡ length next₀
   pub stale_long : length stale ≡ length stale₀
   pub heads_long : length heads ≡ length heads₀
-  pub events-long : length events ≡ length events₀
+  pub events_long : length events ≡ length events₀
 
 -- No item is done yet.
 pub running_none : {f : List ℕ} {n K : ℕ} {log next stale heads : List ℕ} {q : Queue} {events : List ℕ} → CanPlay f n K log next stale heads q events
@@ -67,19 +67,19 @@ running_none can =
     record {
       within = omega arith;
       done = record {
-        holds = record { held = can.ready.held; frames-are = refl };
+        holds = record { held = can.ready.held; frames_are = refl };
         within = can.ready.within;
-        events-are = refl;
+        events_are = refl;
         tally_is = refl;
       };
-      items-are = refl;
+      items_are = refl;
       fetched = omega arith;
       evicted = omega arith;
       log_long = refl;
-      next-long = refl;
+      next_long = refl;
       stale_long = refl;
       heads_long = refl;
-      events-long = refl;
+      events_long = refl;
     }
 
 module _ {f : List ℕ} {n K : ℕ} {log₀ next₀ stale₀ heads₀ : List ℕ} {q₀ : Queue}
@@ -90,16 +90,16 @@ module _ {f : List ℕ} {n K : ℕ} {log₀ next₀ stale₀ heads₀ : List ℕ
   pub running_step : i < n → CanStep K t.fetches log next stale heads q events
   running_step h = record {
     ready = record { held = r.done.holds.held; some = can.ready.some; small = omega (arith, r.log_long, can.ready.small); within = r.done.within };
-    room = omega (arith, r.fetched, r.events-long, can.room);
+    room = omega (arith, r.fetched, r.events_long, can.room);
   }
 
   -- It can be counted.
   pub running_room : i < n → HasRoom t
   running_room h =
       record {
-        items-fit = omega (arith, r.items-are, can.few);
-        fetches-fit = omega (arith, r.fetched, can.few);
-        evictions-fit = omega (arith, r.evicted, can.few);
+        items_fit = omega (arith, r.items_are, can.few);
+        fetches_fit = omega (arith, r.fetched, can.few);
+        evictions_fit = omega (arith, r.evicted, can.few);
       }
 
   -- One item more is done.
@@ -113,22 +113,22 @@ module _ {f : List ℕ} {n K : ℕ} {log₀ next₀ stale₀ heads₀ : List ℕ
       let u = items_from f 0 i in
       let S = (replay K s u).final in
       let p = step K S x in
-      let g' : Stepped p K t.fetches events e log' next' stale' heads' events' = rw r.done.holds.frames-are at g in
-      let k : t.fetches ≡ length (replay K s u).events = rw r.done.tally_is (tally_counts K s u).fetches-are in
+      let g' : Stepped p K t.fetches events e log' next' stale' heads' events' = rw r.done.holds.frames_are at g in
+      let k : t.fetches ≡ length (replay K s u).events = rw r.done.tally_is (tally_counts K s u).fetches_are in
       let l : 4 * (length (replay K s u).events + length p.events) ≤ length events₀ =
-      omega (arith, (step-flagged K S x).fetches-are, one-most (is_fetch p.events), r.fetched, can.room)
+      omega (arith, (step_flagged K S x).fetches_are, one_most (is_fetch p.events), r.fetched, can.room)
       in
       record {
         within = omega arith;
         done = rw (first_more f i, ← y, replay_more K s u x, tally_more K s nothing u x, w) (turned_then r.done g' k l);
-        items-are = rw w (omega (arith, r.items-are));
-        fetched = rw w (omega (arith, one-most e.fetched, r.fetched));
-        evicted = rw w (omega (arith, one-most e.evicted, r.evicted));
+        items_are = rw w (omega (arith, r.items_are));
+        fetched = rw w (omega (arith, one_most e.fetched, r.fetched));
+        evicted = rw w (omega (arith, one_most e.evicted, r.evicted));
         log_long = a ∙ r.log_long;
-        next-long = b ∙ r.next-long;
+        next_long = b ∙ r.next_long;
         stale_long = c ∙ r.stale_long;
         heads_long = d ∙ r.heads_long;
-        events-long = z ∙ r.events-long;
+        events_long = z ∙ r.events_long;
       }
 
   -- All items are done.

@@ -29,13 +29,13 @@ three : replay 3 [] T ≡ record {
 unfolding replay ◌then◌ step hit fetch has dirty taken
 three = refl
 
-one-tally : tally 1 [] nothing T ≡ record { items = 12; fetches = 7; evictions = 6 }
+one_tally : tally 1 [] nothing T ≡ record { items = 12; fetches = 7; evictions = 6 }
 unfolding tally tallied is_fetch is_eviction step hit fetch has dirty taken
-one-tally = refl
+one_tally = refl
 
-two-tally : tally 2 [] nothing T ≡ record { items = 12; fetches = 5; evictions = 3 }
+two_tally : tally 2 [] nothing T ≡ record { items = 12; fetches = 5; evictions = 3 }
 unfolding tally tallied is_fetch is_eviction step hit fetch has dirty taken
-two-tally = refl
+two_tally = refl
 
 rate : per_million 5 12 ≡ 416666
 unfolding per_million

@@ -51,7 +51,7 @@ pub record CanStep (K fetches : ℕ) (log next stale heads : List ℕ) (q : Queu
 pub record Stepped (o : Outcome) (K fetches : ℕ) (events : List ℕ) (r : Effect) (log' next' stale' heads' events' : List ℕ) : Type 0 where
   pub holds : Holds o.final log' next' stale' heads' r.queue
   pub within : r.queue.resident ≤ K
-  pub events-are : events' ≡ sets events (4 * fetches) (words o.events)
+  pub events_are : events' ≡ sets events (4 * fetches) (words o.events)
   pub fetched_is : r.fetched ≡ is_fetch o.events
   pub evicted_is : r.evicted ≡ is_eviction o.events
 
@@ -59,7 +59,7 @@ pub record Stepped (o : Outcome) (K fetches : ℕ) (events : List ℕ) (r : Effe
 
 -- A replay of n items can begin with the cache that the rows hold.
 pub record CanPlay (file : List ℕ) (n K : ℕ) (log next stale heads : List ℕ) (q : Queue) (events : List ℕ) : Type 0 where
-  pub file-long : 23 + 19 * n ≤ length file
+  pub file_long : 23 + 19 * n ≤ length file
   pub few : n ≤ items_most
   pub ready : Ready K log next stale heads q
   pub room : 4 * n ≤ length events
@@ -68,7 +68,7 @@ pub record CanPlay (file : List ℕ) (n K : ℕ) (log next stale heads : List �
 pub record Turned (o : Outcome) (c : Tally) (K : ℕ) (events : List ℕ) (r : Played) (log' next' stale' heads' events' : List ℕ) : Type 0 where
   pub holds : Holds o.final log' next' stale' heads' r.queue
   pub within : r.queue.resident ≤ K
-  pub events-are : events' ≡ over (words o.events) events
+  pub events_are : events' ≡ over (words o.events) events
   pub tally_is : r.tally ≡ c
 
 -- So does that of the replay of the first n items of a file, from a list of frames.
@@ -79,7 +79,7 @@ Plays file n K s events =
 
 -- A replay of n items can begin.
 pub record CanRun (file : List ℕ) (n K resident : ℕ) (cache : List ℕ) (kept : List Bool) (events : List ℕ) : Type 0 where
-  pub file-long : 23 + 19 * n ≤ length file
+  pub file_long : 23 + 19 * n ≤ length file
   pub few : n ≤ items_most
   pub some : 1 ≤ K
   pub most : K ≤ cache_most
@@ -93,7 +93,7 @@ pub record CanRun (file : List ℕ) (n K resident : ℕ) (cache : List ℕ) (kep
 pub record Rows (log next stale heads : List ℕ) : Type 0 where
   pub log_long : cache_most + 1 < length log
   pub small : length log ≤ 65535
-  pub next-long : length log ≤ length next
+  pub next_long : length log ≤ length next
   pub stale_long : length log ≤ length stale
   pub heads_long : buckets ≤ length heads
 
@@ -102,6 +102,6 @@ pub record Ran (o : Outcome) (c : Tally) (cache : List ℕ) (kept : List Bool) (
     (cache' : List ℕ) (kept' : List Bool) (events' : List ℕ) : Type 0 where
   pub cache_is : cache' ≡ over (pages_of o.final) cache
   pub kept_is : kept' ≡ over (marks_of o.final) kept
-  pub events-are : events' ≡ over (words o.events) events
+  pub events_are : events' ≡ over (words o.events) events
   pub resident_is : r.resident ≡ length o.final
   pub tally_is : r.tally ≡ c

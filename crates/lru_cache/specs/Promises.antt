@@ -30,9 +30,9 @@ evictions (e ∷ es) = one e.evicted + evictions es
 
 -- The tally counts the items, one fetch for each event, and one eviction for each event that evicted a page.
 pub record Counts (c : Tally) (t : List Item) (es : List Event) : Type 0 where
-  pub items-are : c.items ≡ length t
-  pub fetches-are : c.fetches ≡ length es
-  pub evictions-are : c.evictions ≡ evictions es
+  pub items_are : c.items ≡ length t
+  pub fetches_are : c.fetches ≡ length es
+  pub evictions_are : c.evictions ≡ evictions es
 
 abbrev pub TallyCounts : Type 0
 TallyCounts = (K : ℕ) (s : List Frame) (t : List Item) → Counts (tally K s nothing t) t (replay K s t).events
@@ -57,8 +57,8 @@ page_event e = record { time = e.time; page = e.page; evicted = Option.map clean
 
 -- Two outcomes differ in marks alone: the same fetches (times, pages, evicted pages), and the same pages in the same order.
 pub record SamePages (o p : Outcome) : Type 0 where
-  pub events-are : map page_event o.events ≡ map page_event p.events
-  pub pages-are : pages_of o.final ≡ pages_of p.final
+  pub events_are : map page_event o.events ≡ map page_event p.events
+  pub pages_are : pages_of o.final ≡ pages_of p.final
 
 -- An item without its mark.
 abbrev pub unmarked : Item → Item

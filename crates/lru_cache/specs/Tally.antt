@@ -21,9 +21,9 @@ counted_of t f e = record { items = t.items + 1; fetches = t.fetches + one_of f;
 
 -- Each count can grow by one.
 pub record HasRoom (t : Tally) : Type 0 where
-  pub items-fit : t.items + 1 < 2 ^ 64
-  pub fetches-fit : t.fetches + 1 < 2 ^ 64
-  pub evictions-fit : t.evictions + 1 < 2 ^ 64
+  pub items_fit : t.items + 1 < 2 ^ 64
+  pub fetches_fit : t.fetches + 1 < 2 ^ 64
+  pub evictions_fit : t.evictions + 1 < 2 ^ 64
 
 -- An item was a fetch.
 unfoldable pub is_fetch : List Event → Bool

@@ -22,9 +22,9 @@ module _ (p : ℕ) (l : List ℕ) where
   add_old h = ap (λ (b : Bool). cond b l (l ++ (p ∷ []))) h
 
   -- A new one goes to the end.
-  pub add-new : has p l ≡ false → add p l ≡ l ++ (p ∷ [])
+  pub add_new : has p l ≡ false → add p l ≡ l ++ (p ∷ [])
   unfolding add
-  add-new h = rw h
+  add_new h = rw h
 
   -- A list with the page p has p and what it had.
   pub has-add : (x : ℕ) → has x (add p l) ≡ has x l || eqb x p
@@ -32,19 +32,19 @@ module _ (p : ℕ) (l : List ℕ) where
   has-add x =
       split (has p l)
       (λ h. rw (add_old h) (split (eqb x p) (λ e. rw (e, same x p e, h)) (λ e. rw e (sym (or-false (has x l))))))
-      (λ h. rw (add-new h, has_join, or-false (eqb x p)))
+      (λ h. rw (add_new h, has_join, or-false (eqb x p)))
 
   -- A new page makes a list longer by one.
-  pub length-new : has p l ≡ false → length (add p l) ≡ suc (length l)
-  length-new h = rw (add-new h, length-append) (omega arith)
+  pub length_new : has p l ≡ false → length (add p l) ≡ suc (length l)
+  length_new h = rw (add_new h, length-append) (omega arith)
 
   -- A page more makes a list longer by one at most.
   pub length-add : length (add p l) ≤ suc (length l)
-  length-add = split (has p l) (λ h. rw (add_old h) (omega arith)) (λ h. rw (length-new h) (omega arith))
+  length-add = split (has p l) (λ h. rw (add_old h) (omega arith)) (λ h. rw (length_new h) (omega arith))
 
 -- A list with a page more begins with the list.
 pub add-begins : (p : ℕ) (l : List ℕ) → (u : List ℕ) × (add p l ≡ l ++ u)
-add-begins p l = split (has p l) (λ h. ([], add_old p l h ∙ sym (append-nil l))) (λ h. (p ∷ [], add-new p l h))
+add-begins p l = split (has p l) (λ h. ([], add_old p l h ∙ sym (append-nil l))) (λ h. (p ∷ [], add_new p l h))
 
 -- ---- no page twice
 
@@ -55,19 +55,19 @@ has-reverse x [] = refl
 has-reverse x (q ∷ l) = rw (reverse-cons q l, has_join x (reverse l) (q ∷ []), has-reverse x l) (or_comm (has x l) (eqb x q || false) ∙ rw (or-false (eqb x q)))
 
 -- A new page at the end of a list of distinct pages.
-pub distinct-new : (p : ℕ) (l : List ℕ) → has p l ≡ false → Distinct l → Distinct (l ++ (p ∷ []))
+pub distinct_new : (p : ℕ) (l : List ℕ) → has p l ≡ false → Distinct l → Distinct (l ++ (p ∷ []))
 unfolding has
-distinct-new p [] h d = (refl, tt)
-distinct-new p (q ∷ l) h d =
+distinct_new p [] h d = (refl, tt)
+distinct_new p (q ∷ l) h d =
     let z = neither (eqb p q) (has p l) h in
-    (rw (has_join q l (p ∷ []), d.0, eqb_sym q p, z.0), distinct-new p l z.1 d.1)
+    (rw (has_join q l (p ∷ []), d.0, eqb_sym q p, z.0), distinct_new p l z.1 d.1)
 
 -- Distinct pages are distinct with a page more.
-pub distinct-add : (p : ℕ) (l : List ℕ) → Distinct l → Distinct (add p l)
-distinct-add p l d = split (has p l) (λ h. rw (add_old p l h) d) (λ h. rw (add-new p l h) (distinct-new p l h d))
+pub distinct_add : (p : ℕ) (l : List ℕ) → Distinct l → Distinct (add p l)
+distinct_add p l d = split (has p l) (λ h. rw (add_old p l h) d) (λ h. rw (add_new p l h) (distinct_new p l h d))
 
 -- Distinct pages are distinct backwards.
-pub distinct-reverse : (l : List ℕ) → Distinct l → Distinct (reverse l)
+pub distinct_reverse : (l : List ℕ) → Distinct l → Distinct (reverse l)
 unfolding has
-distinct-reverse [] d = tt
-distinct-reverse (q ∷ l) d = rw (reverse-cons q l) (distinct-new q (reverse l) (has-reverse q l ∙ d.0) (distinct-reverse l d.1))
+distinct_reverse [] d = tt
+distinct_reverse (q ∷ l) d = rw (reverse-cons q l) (distinct_new q (reverse l) (has-reverse q l ∙ d.0) (distinct_reverse l d.1))

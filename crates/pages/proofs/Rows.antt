@@ -14,8 +14,8 @@ use Rattle.pages.specs.Rows.{All, cons_if, flat, over}
 module _ {A : Type 0} where
   -- ---- an element at a time
 
-  pub drop-next : (l : List A) (i : ℕ) (d : A) → i < length l → drop i l ≡ get_or l i d ∷ drop (i + 1) l
-  drop-next l i d h = rw add-one (drop-cons l i d h)
+  pub drop_next : (l : List A) (i : ℕ) (d : A) → i < length l → drop i l ≡ get_or l i d ∷ drop (i + 1) l
+  drop_next l i d h = rw add-one (drop-cons l i d h)
 
   pub take_next : (l : List A) (i : ℕ) (d : A) → i < length l → take (i + 1) l ≡ take i l ++ (get_or l i d ∷ [])
   take_next l i d h = rw add-one (take-suc l i d h)
@@ -67,13 +67,13 @@ module _ {A : Type 0} where
   unfolding over
   length_over s d h = simp (length-append, length-drop) (omega arith)
 
-  pub over-whole : (s d : List A) → length d ≤ length s → over s d ≡ s
+  pub over_whole : (s d : List A) → length d ≤ length s → over s d ≡ s
   unfolding over
-  over-whole s d h = rw (drop_of_length-le d h, append-nil)
+  over_whole s d h = rw (drop_of_length-le d h, append-nil)
 
-  pub take-over : (s d : List A) → take (length s) (over s d) ≡ s
+  pub take_over : (s d : List A) → take (length s) (over s d) ≡ s
   unfolding over
-  take-over s d = take-append_seam s (drop (length s) d)
+  take_over s d = take-append_seam s (drop (length s) d)
 
   -- ---- each of a list
 
@@ -94,10 +94,10 @@ module _ {A : Type 0} where
   flat_append [] b = refl
   flat_append (l ∷ a) b = rw (flat_append a b, append_assoc)
 
-  pub flat-one : (l : List A) → flat (l ∷ []) ≡ l
+  pub flat_one : (l : List A) → flat (l ∷ []) ≡ l
   unfolding flat
-  flat-one l = append-nil l
+  flat_one l = append-nil l
 
-  pub cons_if-append : (b : Bool) (x : A) (u v : List A) → cons_if b x u ++ v ≡ cons_if b x (u ++ v)
-  cons_if-append true x u v = refl
-  cons_if-append false x u v = refl
+  pub cons_if_append : (b : Bool) (x : A) (u v : List A) → cons_if b x u ++ v ≡ cons_if b x (u ++ v)
+  cons_if_append true x u v = refl
+  cons_if_append false x u v = refl

@@ -9,7 +9,7 @@ use lib.Dec.{ltb, eqb, leb-suc-suc}
 use borrow.Author.Tests.{ltb-true, lt-ltb, le-ltb, eq-eqb, ne_eqb}
 use Rattle.pages.specs.Pages.{has, add, place, Distinct}
 use Rattle.pages.proofs.Choice.{split, same, eqb_self}
-use Rattle.pages.proofs.Added.{add_old, add-new}
+use Rattle.pages.proofs.Added.{add_old, add_new}
 
 -- A page is in a list exactly if its place is within it.
 pub has-place : (p : ℕ) (l : List ℕ) → has p l ≡ ltb (place p l) (length l)
@@ -23,8 +23,8 @@ has-place p (q ∷ l) =
 module _ (p : ℕ) where
   module _ (l : List ℕ) where
     -- A page that is in a list has its place within it.
-    pub place-within : has p l ≡ true → place p l < length l
-    place-within h = ltb-true (place p l) (length l) (sym (has-place p l) ∙ h)
+    pub place_within : has p l ≡ true → place p l < length l
+    place_within h = ltb-true (place p l) (length l) (sym (has-place p l) ∙ h)
 
     -- A page whose place is within a list is in it.
     pub has_within : place p l < length l → has p l ≡ true
@@ -35,10 +35,10 @@ module _ (p : ℕ) where
     has_beyond h = has-place p l ∙ le-ltb (place p l) (length l) h
 
   -- No place lies beyond the list's end.
-  pub place-most : (l : List ℕ) → place p l ≤ length l
+  pub place_most : (l : List ℕ) → place p l ≤ length l
   unfolding place
-  place-most [] = omega arith
-  place-most (q ∷ l) = split (eqb p q) (λ e. rw e (omega arith)) (λ e. let h = place-most l in rw e (omega arith))
+  place_most [] = omega arith
+  place_most (q ∷ l) = split (eqb p q) (λ e. rw e (omega arith)) (λ e. let h = place_most l in rw e (omega arith))
 
   -- A page that is in a list stands at its place.
   pub get_d_place : (l : List ℕ) → has p l ≡ true → get_or l (place p l) 0 ≡ p
@@ -60,16 +60,16 @@ module _ (p : ℕ) where
 
   -- A page that is in a list keeps its place when a page is added.
   pub place-add : (q : ℕ) (l : List ℕ) → has p l ≡ true → place p (add q l) ≡ place p l
-  place-add q l h = split (has q l) (λ e. rw (add_old q l e)) (λ e. rw (add-new q l e) (place-append l (q ∷ []) h))
+  place-add q l h = split (has q l) (λ e. rw (add_old q l e)) (λ e. rw (add_new q l e) (place-append l (q ∷ []) h))
 
   -- A page that is added has the place that it had.
   pub place_added : (l : List ℕ) → place p (add p l) ≡ place p l
-  place_added l = split (has p l) (λ e. rw (add_old p l e)) (λ e. rw (add-new p l e) (place_end l))
+  place_added l = split (has p l) (λ e. rw (add_old p l e)) (λ e. rw (add_new p l e) (place_end l))
 
 -- Pages with one place are one page, if one of them is in the list.
 pub place_same : (p q : ℕ) (l : List ℕ) → has q l ≡ true → place q l ≡ place p l → q ≡ p
 place_same p q l h e =
-    let g : has p l ≡ true = has_within p l (rw e at (place-within q l h)) in
+    let g : has p l ≡ true = has_within p l (rw e at (place_within q l h)) in
     sym (get_d_place q l h) ∙ ap (λ (i : ℕ). get_or l i 0) e ∙ get_d_place p l g
 
 -- A page is among the first c places exactly if its place is below c.

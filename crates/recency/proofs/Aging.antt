@@ -14,9 +14,9 @@ use Rattle.recency.specs.Order.{lasts, order}
 use Rattle.recency.specs.Held.{residents, wrote, frames, CanEvict, Gone}
 use Rattle.recency.specs.declared.Queue.{Queue}
 use Rattle.recency.specs.declared.Evicted.{Evicted}
-use Rattle.recency.proofs.Order.{order-live, order_stale, has-order}
-use Rattle.recency.proofs.Counting.{part-next, part_none, place-live, place_stale}
-use Rattle.recency.proofs.Places.{wrote-live, wrote_same}
+use Rattle.recency.proofs.Order.{order_live, order_stale, has-order}
+use Rattle.recency.proofs.Counting.{part_next, part_none, place_live, place_stale}
+use Rattle.recency.proofs.Places.{wrote_live, wrote_same}
 
 -- A search for it from low on has come to r.
 pub record Aging (log : List ℕ) (q : Queue) (r : ℕ) : Type 0 where
@@ -44,29 +44,29 @@ module _ {log stale : List ℕ} {q : Queue} (can : CanEvict log stale q) where
       aging_more n = record {
         from = omega (arith, a.from);
         within = omega arith;
-        rest = sym (order_stale (get_or log r 0) behind (place_stale can.logged.marked a.from h n)) ∙ rw (part-next log q.now can.logged.within r h) at a.rest;
+        rest = sym (order_stale (get_or log r 0) behind (place_stale can.logged.marked a.from h n)) ∙ rw (part_next log q.now can.logged.within r h) at a.rest;
       }
 
       -- It is the last of the resident pages.
       here : (get_or stale r 0 ≡ 1 → ⊥) → residents log q ≡ order behind ++ (get_or log r 0 ∷ [])
-      here e = sym a.rest ∙ rw (part-next log q.now can.logged.within r h) (order-live (get_or log r 0) behind (place-live can.logged.marked a.from h e))
+      here e = sym a.rest ∙ rw (part_next log q.now can.logged.within r h) (order_live (get_or log r 0) behind (place_live can.logged.marked a.from h e))
 
       module _ (e : get_or stale r 0 ≡ 1 → ⊥) {m : ℕ} (k : m ≡ q.resident - 1) where
         abbrev later : Queue
         later = record { resident = m; low = r + 1; now = q.now }
 
-        pages-are : residents log later ≡ drop_last (residents log q)
+        pages_are : residents log later ≡ drop_last (residents log q)
         unfolding residents
-        pages-are = sym (ap drop_last (here e) ∙ init_append (order behind) (get_or log r 0) [] ∙ append-nil (order behind))
+        pages_are = sym (ap drop_last (here e) ∙ init_append (order behind) (get_or log r 0) [] ∙ append-nil (order behind))
 
         -- The pages that stay are written as they were.
-        frames-are : frames log stale later ≡ drop_last (frames log stale q)
+        frames_are : frames log stale later ≡ drop_last (frames log stale q)
         unfolding frames residents
-        frames-are =
+        frames_are =
             let w = wrote log stale q.low q.now in
             by_same (wrote log stale (r + 1) q.now) w (residents log later)
             (λ p g. wrote_same log q.low q.now can.logged.within stale (r + 1) p (omega (arith, a.from)) (omega arith) (sym (has-order p behind) ∙ g))
-            ∙ ap (frames_by w) pages-are
+            ∙ ap (frames_by w) pages_are
             ∙ sym (init_by w (residents log q))
 
         last_is : get_last? (frames log stale q) ≡ some (framed (get_or log r 0) (eqb (get_or stale r 0) 2))
@@ -74,7 +74,7 @@ module _ {log stale : List ℕ} {q : Queue} (can : CanEvict log stale q) where
         last_is =
             last_by (wrote log stale q.low q.now) (residents log q) (ap get_last? (here e) ∙ last-append (order behind) (get_or log r 0) [])
             ∙ ap (λ (b : Bool). some (framed (get_or log r 0) b))
-            (wrote-live log q.low q.now can.logged.within stale r a.from h (place-live can.logged.marked a.from h e))
+            (wrote_live log q.low q.now can.logged.within stale r a.from h (place_live can.logged.marked a.from h e))
 
         pub aging_here : Gone log stale q (record { queue = later; page = get_or log r 0; written = eqb (get_or stale r 0) 2 })
         unfolding residents
@@ -90,7 +90,7 @@ module _ {log stale : List ℕ} {q : Queue} (can : CanEvict log stale q) where
               };
               from = omega (arith, a.from);
               now_is = refl;
-              frames-are = frames-are;
+              frames_are = frames_are;
               last_is = last_is;
             }
 

@@ -11,7 +11,7 @@ use lib.Dec.{eqb, ltb}
 use borrow.Author.Tests.{lt-ltb, le-ltb, ltb-true, ltb-false, eq-eqb, ne_eqb, eqb-false}
 use Rattle.pages.specs.Pages.{has, remove, Distinct}
 use Rattle.pages.proofs.Choice.{split, same}
-use Rattle.pages.proofs.Added.{has_join, distinct-reverse}
+use Rattle.pages.proofs.Added.{has_join, distinct_reverse}
 use Rattle.pages.proofs.Pages.{length_move, remove_absent, removed, has-remove}
 use Rattle.frames.specs.Frames.{framed, pages_of, frames_by, dirty, taken}
 use Rattle.frames.specs.declared.Frame.{Frame}
@@ -23,19 +23,19 @@ use Rattle.recency.specs.Linked.{Linked, CanLink, last_from}
 use Rattle.recency.specs.Held.{part, residents, state_of, wrote, frames, Marked, Held, Holds, CanShorten, Shortened, CanAppend, CanMark, count_with, stale_with, written_with, CanUse, Gone}
 use Rattle.recency.specs.declared.Queue.{Queue}
 use Rattle.recency.specs.declared.Evicted.{Evicted}
-use Rattle.recency.proofs.Order.{order_use, has-order, distinct-lasts}
+use Rattle.recency.proofs.Order.{order_use, has-order, distinct_lasts}
 use Rattle.recency.proofs.Linking.{linked_store}
 use Rattle.recency.proofs.Counting.{part_none}
-use Rattle.recency.proofs.Places.{has_part, has_last, wrote-live, last-place, last_other}
+use Rattle.recency.proofs.Places.{has_part, has_last, wrote_live, last_place_lem, last_other}
 use Rattle.recency.proofs.Fresh.{whole, state_live, state_says, shortened_count, shortened_holds}
 
 -- ---- a page that is resident
 
 module _ {log next stale heads : List ℕ} {q : Queue} (h : Held log next stale heads q) where
   -- A page is resident exactly if its last place is found.
-  pub has-held : (p : ℕ) {e : ℕ} → e ≡ last_from q.low log q.now p → has p (residents log q) ≡ ltb q.low e
+  pub has_held : (p : ℕ) {e : ℕ} → e ≡ last_from q.low log q.now p → has p (residents log q) ≡ ltb q.low e
   unfolding residents last_from
-  has-held p {e} k =
+  has_held p {e} k =
       has-order p (part log q.low q.now) ∙ has_last log q.low q.now p h.logged.behind h.logged.within
       ∙ split (ltb q.low (newest (at log) p q.now))
       (λ t. let z : e ≡ newest (at log) p q.now = rw t at k in ap (ltb q.low) (sym z))
@@ -43,30 +43,30 @@ module _ {log next stale heads : List ℕ} {q : Queue} (h : Held log next stale 
 
   pub has-frames : (p : ℕ) {e : ℕ} → e ≡ last_from q.low log q.now p → has p (pages_of (frames log stale q)) ≡ ltb q.low e
   unfolding frames
-  has-frames p k = rw (pages_by (wrote log stale q.low q.now) (residents log q)) (has-held p k)
+  has-frames p k = rw (pages_by (wrote log stale q.low q.now) (residents log q)) (has_held p k)
 
-  length-held : length (residents log q) ≡ q.resident
-  length-held = h.logged.count
+  length_held : length (residents log q) ≡ q.resident
+  length_held = h.logged.count
 
   pub length-frames : length (frames log stale q) ≡ q.resident
   unfolding frames
-  length-frames = length-map (residents log q) (λ (p : ℕ). framed p (wrote log stale q.low q.now p)) ∙ length-held
+  length-frames = length-map (residents log q) (λ (p : ℕ). framed p (wrote log stale q.low q.now p)) ∙ length_held
 
   -- The rows hold the cache after an eviction too.
   pub gone_held : {r : Evicted} → Gone log stale q r → Held log next stale heads r.queue
   gone_held g = record { logged = g.logged; linked = rw g.now_is h.linked; room = rw g.now_is h.room }
 
 -- No page is resident twice.
-distinct-held : (log : List ℕ) (q : Queue) → Distinct (residents log q)
+distinct_held : (log : List ℕ) (q : Queue) → Distinct (residents log q)
 unfolding residents order
-distinct-held log q = distinct-reverse (lasts (part log q.low q.now)) (distinct-lasts (part log q.low q.now))
+distinct_held log q = distinct_reverse (lasts (part log q.low q.now)) (distinct_lasts (part log q.low q.now))
 
 -- A page that stays when another is taken out is resident, and another one.
 stays : (log : List ℕ) (q : Queue) (page p : ℕ) → has p (remove page (residents log q)) ≡ true → (has p (part log q.low q.now) ≡ true) × (eqb page p ≡ false)
 unfolding residents
 stays log q page p h =
     let o = split (eqb page p)
-    (λ e. absurd (false≢true (sym (removed page (residents log q) (distinct-held log q)) ∙ rw (← same page p e) at h)))
+    (λ e. absurd (false≢true (sym (removed page (residents log q) (distinct_held log q)) ∙ rw (← same page p e) at h)))
     (λ e. e) in
     let k = split (has p (residents log q)) (λ e. e) (λ e. absurd (false≢true (sym (has-remove page p (residents log q) e) ∙ h))) in
     (sym (has-order p (part log q.low q.now)) ∙ k, o)
@@ -120,12 +120,12 @@ module _ {log next stale heads : List ℕ} {q : Queue} {m page : ℕ} (can : Can
     }
 
     -- The page is written as its new place says,
-    wrote-new : wrote log' stale' q.low (q.now + 1) page ≡ w
+    wrote_new : wrote log' stale' q.low (q.now + 1) page ≡ w
     unfolding has
-    wrote-new =
+    wrote_new =
         let g = get_or-set_same log q.now page 0 can.room in
         let n : has (get_or log' q.now 0) (drop (q.now + 1) (take (q.now + 1) log')) ≡ false = rw (part_none log' (q.now + 1) long_enough (q.now + 1) (omega arith)) in
-        let u = wrote-live log' q.low (q.now + 1) long_enough stale' q.now can.behind (omega arith) n in
+        let u = wrote_live log' q.low (q.now + 1) long_enough stale' q.now can.behind (omega arith) n in
         (rw g at u) ∙ rw (get_or-set_same stale q.now v 0 append_stales, says) (state_says w)
 
     -- and any other as it was.
@@ -134,17 +134,17 @@ module _ {log next stale heads : List ℕ} {q : Queue} {m page : ℕ} (can : Can
     wrote_other p h =
         let (k, o) = stays log q page p h in
         let e = last_from q.low log q.now p in
-        let l = last-place log q.low q.now p can.behind (omega (arith, can.room)) k e refl in
+        let l = last_place_lem log q.low q.now p can.behind (omega (arith, can.room)) k e refl in
         rw (last_other log q.low q.now page p can.room o, get_or-set_other stale q.now (e - 1) v 0 (λ y. omega (arith, l.0, l.1)))
 
-    frames-new : frames_by (wrote log' stale' q.low (q.now + 1)) (order (part log' q.low (q.now + 1))) ≡ framed page w ∷ taken page (frames log stale q)
+    frames_new : frames_by (wrote log' stale' q.low (q.now + 1)) (order (part log' q.low (q.now + 1))) ≡ framed page w ∷ taken page (frames log stale q)
     unfolding frames
-    frames-new =
+    frames_new =
         let u = wrote log' stale' q.low (q.now + 1) in
         let y = wrote log stale q.low q.now in
         let r = remove page (residents log q) in
         ap (frames_by u) order_is
-        ∙ ap (λ (b : Bool). framed page b ∷ frames_by u r) wrote-new
+        ∙ ap (λ (b : Bool). framed page b ∷ frames_by u r) wrote_new
         ∙ ap (λ (l : List Frame). framed page w ∷ l) (by_same u y r wrote_other ∙ sym (taken_by y page (residents log q)))
 
     pub append_shorten : {next' heads' : List ℕ} → Linked log' next' heads' (q.now + 1) → CanShorten log' next' stale' heads' q.low (q.now + 1)
@@ -169,7 +169,7 @@ module _ {log next stale heads : List ℕ} {q : Queue} {m page : ℕ} (can : Can
         linked = l;
         room = r;
       };
-      frames-are = frames-new;
+      frames_are = frames_new;
     }
 
     -- or made short.
@@ -178,7 +178,7 @@ module _ {log next stale heads : List ℕ} {q : Queue} {m page : ℕ} (can : Can
     append-short {log₂} {n = n} s a b =
         let c : n ≡ m = shortened_count s ∙ ap length order_is ∙ can.count in
         let a' : length log₂ ≡ length log = a ∙ length-set log q.now page in
-        rw frames-new at (shortened_holds s (omega (arith, can.few)) (omega (arith, b, length-set stale q.now v, can.stale_long)))
+        rw frames_new at (shortened_holds s (omega (arith, can.few)) (omega (arith, b, length-set stale q.now v, can.stale_long)))
 
 -- ---- a page used
 
@@ -196,10 +196,10 @@ module _ {log next stale heads : List ℕ} {q : Queue} {page e : ℕ} (can : Can
     place_of = newest-at (at log) page q.now (e - 1) (last ∙ omega arith)
 
     -- What stands before the page's last place is stale already.
-    found-marks : (r : ℕ) → q.low ≤ r → r < q.now
+    found_marks : (r : ℕ) → q.low ≤ r → r < q.now
         → eqb (get_or (set stale (e - 1) 1) r 0) 1 ≡ has (get_or log r 0) (drop (r + 1) (take q.now log)) || eqb (get_or log r 0) page
     unfolding at
-    found-marks r f h =
+    found_marks r f h =
         let l = can.held.logged in
         split (eqb r (e - 1))
         (λ t.
@@ -218,7 +218,7 @@ module _ {log next stale heads : List ℕ} {q : Queue} {page e : ℕ} (can : Can
 
   module _ (miss : e ≤ q.low) where
     away : has page (residents log q) ≡ false
-    away = has-held can.held page can.last ∙ le-ltb q.low e miss
+    away = has_held can.held page can.last ∙ le-ltb q.low e miss
 
     other : (r : ℕ) → q.low ≤ r → r < q.now → eqb (get_or log r 0) page ≡ false
     unfolding residents
@@ -256,8 +256,8 @@ module _ {log next stale heads : List ℕ} {q : Queue} {page e : ℕ} (can : Can
         stale_long = rw length-set h.logged.stale_long;
         linked = h.linked;
         room = h.room;
-        marks = found-marks o;
-        count = length_move page (residents log q) (has-held h page can.last ∙ t) ∙ length-held h;
+        marks = found_marks o;
+        count = length_move page (residents log q) (has_held h page can.last ∙ t) ∙ length_held h;
         few = omega (arith, can.few);
       })
       (λ t.
@@ -268,7 +268,7 @@ module _ {log next stale heads : List ℕ} {q : Queue} {page e : ℕ} (can : Can
         linked = h.linked;
         room = h.room;
         marks = λ r f k. rw (other o r f k, or-false) (h.logged.marked.are r f k);
-        count = rw (remove_absent page (residents log q) (away o)) (omega (arith, length-held h));
+        count = rw (remove_absent page (residents log q) (away o)) (omega (arith, length_held h));
         few = can.few;
       })
 
@@ -279,7 +279,7 @@ module _ {log next stale heads : List ℕ} {q : Queue} {page e : ℕ} (can : Can
   unfolding frames wrote
   dirty_is =
       let y = wrote log stale q.low q.now in
-      let k = has-held can.held page can.last in
+      let k = has_held can.held page can.last in
       split (ltb q.low e)
       (λ t. rw t (dirty_by y page (residents log q) (k ∙ t) ∙ rw (← can.last)))
       (λ t. rw t (dirty_absent page (frames_by y (residents log q)) (rw pages_by (k ∙ t))))
@@ -297,7 +297,7 @@ module _ {log next stale heads : List ℕ} {q : Queue} {page e : ℕ} (can : Can
       (λ p h.
       let (k, o) = stays log q page p h in
       let d = last_from q.low log q.now p in
-      let z = last-place log q.low q.now p l.behind l.within k d refl in
+      let z = last_place_lem log q.low q.now p l.behind l.within k d refl in
       split (ltb q.low e)
       (λ t.
       let f = (place_of (ltb-true q.low e t)).0 in
@@ -316,13 +316,13 @@ module _ {log next stale heads : List ℕ} {q : Queue} {page e : ℕ} (can : Can
 -- ---- as `mark` does it
 
 module _ (low e m : ℕ) where
-  pub count-found : low < e → m ≡ count_with low e m
+  pub count_found : low < e → m ≡ count_with low e m
   unfolding count_with
-  count-found o = rw (lt-ltb low e o)
+  count_found o = rw (lt-ltb low e o)
 
-  pub count-new : e ≤ low → m + 1 ≡ count_with low e m
+  pub count_new : e ≤ low → m + 1 ≡ count_with low e m
   unfolding count_with
-  count-new o = rw (le-ltb low e o)
+  count_new o = rw (le-ltb low e o)
 
 module _ (stale : List ℕ) (low e : ℕ) where
   pub stale_found : low < e → set stale (e - 1) 1 ≡ stale_with low e stale
@@ -334,9 +334,9 @@ module _ (stale : List ℕ) (low e : ℕ) where
   stale_new o = rw (le-ltb low e o)
 
 -- A page that is not found is not found in a shorter part either.
-pub last-later : (low low' : ℕ) (log : List ℕ) (n p : ℕ) {e : ℕ} → e ≡ last_from low log n p → e ≤ low → low ≤ low' → e ≡ last_from low' log n p
+pub last_later : (low low' : ℕ) (log : List ℕ) (n p : ℕ) {e : ℕ} → e ≡ last_from low log n p → e ≤ low → low ≤ low' → e ≡ last_from low' log n p
 unfolding last_from
-last-later low low' log n p {e} k o h =
+last_later low low' log n p {e} k o h =
     split (ltb low (newest (at log) p n))
     (λ t. let z : e ≡ newest (at log) p n = rw t at k in absurd (omega (arith, ltb-true low (newest (at log) p n) t)))
     (λ t. let z : e ≡ 0 = rw t at k in z ∙ sym (rw (le-ltb low' (newest (at log) p n) (omega (arith, ltb-false low (newest (at log) p n) t)))))
@@ -344,9 +344,9 @@ last-later low low' log n p {e} k o h =
 -- ---- as `stays_written` does it
 
 module _ (low e : ℕ) (stale : List ℕ) (w : Bool) where
-  pub written-found : low < e → get_or stale (e - 1) 0 ≡ 2 → true ≡ written_with low e stale w
+  pub written_found : low < e → get_or stale (e - 1) 0 ≡ 2 → true ≡ written_with low e stale w
   unfolding written_with
-  written-found o h = rw (lt-ltb low e o, h)
+  written_found o h = rw (lt-ltb low e o, h)
 
   pub written-clean : low < e → (get_or stale (e - 1) 0 ≡ 2 → ⊥) → w ≡ written_with low e stale w
   unfolding written_with

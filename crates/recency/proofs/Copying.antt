@@ -10,7 +10,7 @@ use lib.Dec.{eqb}
 use borrow.Author.Tests.{eqb-false}
 use Rattle.pages.specs.Rows.{over}
 use Rattle.pages.proofs.Choice.{split, same}
-use Rattle.pages.proofs.Rows.{drop-next, over_more}
+use Rattle.pages.proofs.Rows.{drop_next, over_more}
 use Rattle.recency.specs.Held.{state_of, CanCopy, Copied}
 
 -- From place r on they are.
@@ -20,7 +20,7 @@ pub record Copying (list : List ℕ) (kept : List Bool) (log₀ stale₀ log sta
   pub stale_length : length stale ≡ length stale₀
   pub done : log ≡ over (reverse (drop r list)) log₀
   pub pages-at : (j : ℕ) → r ≤ j → j < length list → get_or log (length list - 1 - j) 0 ≡ get_or list j 0
-  pub marks-at : (j : ℕ) → r ≤ j → j < length list → get_or stale (length list - 1 - j) 0 ≡ state_of (get_or kept j false)
+  pub marks_at : (j : ℕ) → r ≤ j → j < length list → get_or stale (length list - 1 - j) 0 ≡ state_of (get_or kept j false)
 
 module _ {list : List ℕ} {kept : List Bool} {log₀ stale₀ : List ℕ} (can : CanCopy list kept log₀ stale₀) where
   pub copying_none : Copying list kept log₀ stale₀ log₀ stale₀ 0 (length list)
@@ -31,7 +31,7 @@ module _ {list : List ℕ} {kept : List Bool} {log₀ stale₀ : List ℕ} (can 
     stale_length = refl;
     done = rw (drop_of_length-le list {i = length list} (omega arith));
     pages-at = λ j f h. absurd (omega arith);
-    marks-at = λ j f h. absurd (omega arith);
+    marks_at = λ j f h. absurd (omega arith);
   }
 
   module _ {log stale : List ℕ} {i r : ℕ} (p : Copying list kept log₀ stale₀ log stale i r) where
@@ -55,7 +55,7 @@ module _ {list : List ℕ} {kept : List Bool} {log₀ stale₀ : List ℕ} (can 
       done_more =
           let u : r - 1 + 1 ≡ r = omega arith in
           let d = drop r list in
-          let n : drop (r - 1) list ≡ x ∷ d = drop-next list (r - 1) 0 copying_reads ∙ rw u in
+          let n : drop (r - 1) list ≡ x ∷ d = drop_next list (r - 1) 0 copying_reads ∙ rw u in
           let k : length (reverse d) ≡ i = length-reverse d ∙ length-drop r list ∙ omega (arith, p.count) in
           rw (n, reverse-cons x d, ← over_more (reverse d) (x ∷ []) log₀ (omega (arith, k, p.count, can.room)), k, p.done)
 
@@ -78,10 +78,10 @@ module _ {list : List ℕ} {kept : List Bool} {log₀ stale₀ : List ℕ} (can 
         stale_length = length-set stale i v ∙ p.stale_length;
         done = done_more;
         pages-at = at_more log x (λ j. get_or list j 0) copying_writes refl p.pages-at;
-        marks-at = at_more stale v (λ j. state_of (get_or kept j false)) copying_says e p.marks-at;
+        marks_at = at_more stale v (λ j. state_of (get_or kept j false)) copying_says e p.marks_at;
       }
 
     pub copying_all : r ≤ 0 → Copied list kept log₀ log stale
     copying_all h =
         let e : r ≡ 0 = omega arith in
-        record { pages-are = rw e at p.done; pages-at = λ j o. p.pages-at j (omega arith) o; marks-at = λ j o. p.marks-at j (omega arith) o }
+        record { pages_are = rw e at p.done; pages-at = λ j o. p.pages-at j (omega arith) o; marks_at = λ j o. p.marks_at j (omega arith) o }

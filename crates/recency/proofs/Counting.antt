@@ -9,7 +9,7 @@ use lib.Seq.{length-take-le, get_or-take}
 use borrow.Author.Tests.{eq-eqb, ne_eqb}
 use Rattle.pages.specs.Pages.{has}
 use Rattle.pages.proofs.Choice.{split}
-use Rattle.pages.proofs.Rows.{drop-next}
+use Rattle.pages.proofs.Rows.{drop_next}
 use Rattle.recency.specs.Order.{lasts}
 use Rattle.recency.specs.Held.{Marked}
 
@@ -18,15 +18,15 @@ module _ (log : List ℕ) (end : ℕ) (within : end ≤ length log) where
   long = length-take-le end log within
 
   -- The log from a place on.
-  pub part-next : (r : ℕ) → r < end → drop r (take end log) ≡ get_or log r 0 ∷ drop (r + 1) (take end log)
-  part-next r h = drop-next (take end log) r 0 (omega (arith, long)) ∙ rw (get_or-take end log r 0 h)
+  pub part_next : (r : ℕ) → r < end → drop r (take end log) ≡ get_or log r 0 ∷ drop (r + 1) (take end log)
+  part_next r h = drop_next (take end log) r 0 (omega (arith, long)) ∙ rw (get_or-take end log r 0 h)
 
   pub part_none : (r : ℕ) → end ≤ r → drop r (take end log) ≡ []
   part_none r h = drop_of_length-le (take end log) {i = r} (omega (arith, long))
 
 module _ {log stale : List ℕ} {low end : ℕ} (m : Marked log stale low end) {r : ℕ} (from : low ≤ r) (h : r < end) where
-  pub place-live : (get_or stale r 0 ≡ 1 → ⊥) → has (get_or log r 0) (drop (r + 1) (take end log)) ≡ false
-  place-live n = sym (m.are r from h) ∙ ne_eqb (get_or stale r 0) 1 n
+  pub place_live : (get_or stale r 0 ≡ 1 → ⊥) → has (get_or log r 0) (drop (r + 1) (take end log)) ≡ false
+  place_live n = sym (m.are r from h) ∙ ne_eqb (get_or stale r 0) 1 n
 
   pub place_stale : get_or stale r 0 ≡ 1 → has (get_or log r 0) (drop (r + 1) (take end log)) ≡ true
   place_stale e = sym (m.are r from h) ∙ eq-eqb (get_or stale r 0) 1 e

@@ -9,23 +9,23 @@ use lib.ListN.{length, get_or, take, drop, length-reverse}
 use lib.Seq.{length-take-le, get_or-take}
 use lib.Dec.{eqb}
 use Rattle.pages.specs.Pages.{has, place, Distinct}
-use Rattle.pages.proofs.Added.{has-reverse, distinct-reverse}
-use Rattle.pages.proofs.Table.{get_d_place, place-within, place_alone}
-use Rattle.pages.proofs.Rows.{take-over, length_over}
+use Rattle.pages.proofs.Added.{has-reverse, distinct_reverse}
+use Rattle.pages.proofs.Table.{get_d_place, place_within, place_alone}
+use Rattle.pages.proofs.Rows.{take_over, length_over}
 use Rattle.frames.specs.Frames.{frames_by, frames_of}
 use Rattle.frames.proofs.By.{by_same, by_columns}
 use Rattle.recency.specs.Order.{order}
 use Rattle.recency.specs.Linked.{Linked}
 use Rattle.recency.specs.Held.{part, residents, state_of, wrote, frames, Held, Holds, CanIndex, Shortened, CanCopy, Copied, CanLoad}
 use Rattle.recency.specs.declared.Queue.{Queue}
-use Rattle.recency.proofs.Order.{order-distinct, distinct-lasts, length-order}
-use Rattle.recency.proofs.Places.{wrote-live}
+use Rattle.recency.proofs.Order.{order_distinct, distinct_lasts, length-order}
+use Rattle.recency.proofs.Places.{wrote_live}
 
 -- Of distinct pages none stands again behind its place.
-distinct-behind : (l : List ℕ) → Distinct l → (r : ℕ) → r < length l → has (get_or l r 0) (drop (suc r) l) ≡ false
-distinct-behind [] d r h = absurd (omega arith)
-distinct-behind (x ∷ l) d zero h = d.0
-distinct-behind (x ∷ l) d (suc r) h = distinct-behind l d.1 r (omega arith)
+distinct_behind : (l : List ℕ) → Distinct l → (r : ℕ) → r < length l → has (get_or l r 0) (drop (suc r) l) ≡ false
+distinct_behind [] d r h = absurd (omega arith)
+distinct_behind (x ∷ l) d zero h = d.0
+distinct_behind (x ∷ l) d (suc r) h = distinct_behind l d.1 r (omega arith)
 
 -- The log whose first n places are all there is.
 abbrev pub whole : ℕ → Queue
@@ -36,7 +36,7 @@ module _ {log next heads : List ℕ} {n : ℕ} (linked : Linked log next heads n
   first = length-take-le n log (omega arith)
 
   again : (r : ℕ) → r < n → has (get_or log r 0) (drop (r + 1) (take n log)) ≡ false
-  again r h = rw (← get_or-take n log r 0 h, add-one) (distinct-behind (take n log) once r (omega (arith, first)))
+  again r h = rw (← get_or-take n log r 0 h, add-one) (distinct_behind (take n log) once r (omega (arith, first)))
 
   module _ (stale : List ℕ) (long : length log ≤ length stale) (live : (j : ℕ) → j < n → eqb (get_or stale j 0) 1 ≡ false) where
     fresh_held : Held log next stale heads (whole n)
@@ -47,7 +47,7 @@ module _ {log next heads : List ℕ} {n : ℕ} (linked : Linked log next heads n
         within = omega arith;
         stale_long = long;
         marked = record { are = λ r f h. live r h ∙ sym (again r h) };
-        count = rw (order-distinct (take n log) once, length-reverse) first;
+        count = rw (order_distinct (take n log) once, length-reverse) first;
       };
       linked = linked;
       room = room;
@@ -61,15 +61,15 @@ module _ {log next heads : List ℕ} {n : ℕ} (linked : Linked log next heads n
         let f = take n log in
         record {
           held = fresh_held;
-          frames-are =
-              ap (frames_by (wrote log stale 0 n)) (order-distinct f once)
+          frames_are =
+              ap (frames_by (wrote log stale 0 n)) (order_distinct f once)
               ∙ by_same (wrote log stale 0 n) w (reverse f)
               (λ p g.
               let k : has p f ≡ true = sym (has-reverse p f) ∙ g in
               let j = place p f in
-              let o : j < n = omega (arith, place-within p f k, first) in
+              let o : j < n = omega (arith, place_within p f k, first) in
               let z : get_or log j 0 ≡ p = sym (get_or-take n log j 0 o) ∙ get_d_place p f k in
-              let u = wrote-live log 0 n (omega arith) stale j (omega arith) o (again j o) ∙ says j o in
+              let u = wrote_live log 0 n (omega arith) stale j (omega arith) o (again j o) ∙ says j o in
               rw z at u);
         }
 
@@ -85,7 +85,7 @@ module _ {log stale : List ℕ} {low end : ℕ} {log' next' stale' heads' : List
   unfolding order
   shortened_holds r l =
       let e = s.packed.lasts_are in
-      let d : Distinct (take n log') = rw e (distinct-lasts (part log low end)) in
+      let d : Distinct (take n log') = rw e (distinct_lasts (part log low end)) in
       rw e at (fresh_holds s.linked d r stale' l s.packed.live (wrote log stale low end) s.packed.said)
 
 -- ---- a start
@@ -107,13 +107,13 @@ module _ {list : List ℕ} {kept : List Bool} {log next stale heads : List ℕ} 
     back = length-reverse list
 
     same_log : length log' ≡ length log
-    same_log = rw c.pages-are (length_over (reverse list) log (omega (arith, back, can.few)))
+    same_log = rw c.pages_are (length_over (reverse list) log (omega (arith, back, can.few)))
 
     pub load_index : CanIndex log' next heads (length list)
     load_index = record {
       within = omega (arith, same_log, can.few);
       small = omega (arith, same_log, can.small);
-      next-long = omega (arith, same_log, can.next-long);
+      next_long = omega (arith, same_log, can.next_long);
       heads_long = can.heads_long;
     }
 
@@ -126,14 +126,14 @@ module _ {list : List ℕ} {kept : List Bool} {log next stale heads : List ℕ} 
         let k = length list - 1 - j in
         let z : length list - 1 - k ≡ j = omega arith in
         let a : get_or log' j 0 ≡ get_or list k 0 = rw z at (c.pages-at k (omega arith)) in
-        let b : get_or stale' j 0 ≡ state_of (get_or kept k false) = rw z at (c.marks-at k (omega arith)) in
+        let b : get_or stale' j 0 ≡ state_of (get_or kept k false) = rw z at (c.marks_at k (omega arith)) in
         b ∙ ap (λ (i : ℕ). state_of (get_or kept i false)) (place_alone (get_or log' j 0) list k can.once (omega arith) (sym a))
 
     pub loaded : {next' heads' : List ℕ} → Linked log' next' heads' (length list) → length stale' ≡ length stale
         → Holds (frames_of list kept) log' next' stale' heads' (whole (length list))
     loaded i s =
-        let t : take (length list) log' ≡ reverse list = rw (c.pages-are, ← back) (take-over (reverse list) log) in
-        let d : Distinct (take (length list) log') = rw t (distinct-reverse list can.once) in
+        let t : take (length list) log' ≡ reverse list = rw (c.pages_are, ← back) (take_over (reverse list) log) in
+        let d : Distinct (take (length list) log') = rw t (distinct_reverse list can.once) in
         let h = fresh_holds i d (omega (arith, same_log, can.few)) stale' (omega (arith, s, same_log, can.stale_long))
         (λ j o. rw (at_place j o) (state_live (mark_of (get_or log' j 0)))) mark_of (λ j o. rw (at_place j o) (state_says (mark_of (get_or log' j 0)))) in
         let g = by_columns mark_of list kept can.marks (λ j o. ap (λ (k : ℕ). get_or kept k false) (sym (place_alone (get_or list j 0) list j can.once o refl))) in

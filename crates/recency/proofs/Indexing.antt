@@ -6,7 +6,7 @@ use native.Mathlib.Omega.{arith}
 use lib.ListN.{length, replicate}
 use Rattle.recency.specs.Linked.{Linked, CanLink}
 use Rattle.recency.specs.Held.{CanIndex}
-use Rattle.recency.proofs.Linking.{linked-none}
+use Rattle.recency.proofs.Linking.{linked_none}
 
 -- The first c of them are.
 pub record Indexing (log : List ℕ) (n : ℕ) (next₀ heads₀ next heads : List ℕ) (c : ℕ) : Type 0 where
@@ -21,7 +21,7 @@ module _ {log next₀ heads₀ : List ℕ} {n : ℕ} (can : CanIndex log next₀
     same_next = refl;
     same_heads = refl;
     within = omega arith;
-    linked = rw e (linked-none log next₀ heads₀ can.small can.next-long can.heads_long);
+    linked = rw e (linked_none log next₀ heads₀ can.small can.next_long can.heads_long);
   }
 
   module _ {heads₁ next heads : List ℕ} {c : ℕ} (p : Indexing log n next₀ heads₁ next heads c) where

@@ -9,7 +9,7 @@ use lib.Seq.{get_or-set_other}
 use borrow.Author.Tests.{lt-ltb, le-ltb}
 use Rattle.chains.specs.Chains.{at, newest, CanPush, heads_with, next_with, mixed}
 use Rattle.chains.proofs.Newest.{newest_same}
-use Rattle.chains.proofs.Chained.{chained-none, chained_more, low_zeros, Seeking, seeking_none, seeking_within, seeking_less, seeking_most, seeking_here, seeking_more}
+use Rattle.chains.proofs.Chained.{chained_none, chained_more, low_zeros, Seeking, seeking_none, seeking_within, seeking_less, seeking_most, seeking_here, seeking_more}
 use Rattle.recency.specs.Linked.{buckets, bucket_of, bucket_at, Linked, CanLink, last_from}
 
 -- A bucket is one of the heads'.
@@ -25,13 +25,13 @@ bucket_is p q = rw q
 -- ---- none, and one more
 
 -- Heads that are cleared chain no place.
-pub linked-none : (log next heads : List ℕ) → length log ≤ 65535 → length log ≤ length next → buckets ≤ length heads
+pub linked_none : (log next heads : List ℕ) → length log ≤ 65535 → length log ≤ length next → buckets ≤ length heads
     → Linked log next (replicate (length heads) 0) 0
-linked-none log next heads s n h = record {
-  chained = chained-none (bucket_at log) next (low_zeros (length heads));
+linked_none log next heads s n h = record {
+  chained = chained_none (bucket_at log) next (low_zeros (length heads));
   within = omega arith;
   small = s;
-  next-long = n;
+  next_long = n;
   heads_long = rw length-replicate h;
 }
 
@@ -40,7 +40,7 @@ module _ {log next heads : List ℕ} {c : ℕ} (k : CanLink log next heads c) {v
   pub link_push : CanPush 0 c v heads next
   link_push = record {
     bucket = rw q (omega (arith, bucket_below (get_or log c 0), k.linked.heads_long));
-    room = omega (arith, k.room, k.linked.next-long);
+    room = omega (arith, k.room, k.linked.next_long);
     small = omega (arith, k.room, k.linked.small);
   }
 
@@ -53,7 +53,7 @@ module _ {log next heads : List ℕ} {c : ℕ} (k : CanLink log next heads c) {v
         chained = rw add-one (chained_more k.linked.chained (bucket_at log) v (λ j o. refl) (sym q) w.bucket w.room);
         within = omega (arith, k.room);
         small = k.linked.small;
-        next-long = rw length-set k.linked.next-long;
+        next_long = rw length-set k.linked.next_long;
         heads_long = rw length-set k.linked.heads_long;
       }
 
@@ -69,12 +69,12 @@ module _ {log next heads : List ℕ} {n : ℕ} (l : Linked log next heads n) whe
   linked_store i p o = record {
     chained = record {
       heads_are = λ v. l.chained.heads_are v ∙ sym (newest_same (bucket_at (set log i p)) (bucket_at log) v n (other i p o));
-      next-are = λ j h. l.chained.next-are j h
+      next_are = λ j h. l.chained.next_are j h
           ∙ sym (rw (other i p o j h) (newest_same (bucket_at (set log i p)) (bucket_at log) (bucket_at log j) j (λ x y. other i p o x (omega arith))));
     };
     within = rw length-set l.within;
     small = rw length-set l.small;
-    next-long = rw length-set l.next-long;
+    next_long = rw length-set l.next_long;
     heads_long = l.heads_long;
   }
 
@@ -110,7 +110,7 @@ module _ {log next heads : List ℕ} {n : ℕ} (l : Linked log next heads n) whe
       find_reads = omega (arith, seeking_within s one, l.within)
 
       pub find_next : e - 1 < length next
-      find_next = omega (arith, find_reads, l.next-long)
+      find_next = omega (arith, find_reads, l.next_long)
 
       pub find_less : {d : ℕ} → d ≡ get_or next (e - 1) 0 → d < e
       find_less z = seeking_less s one l.chained z

@@ -24,11 +24,11 @@ pub save_marks_once : OneBuffer save.ps save.r save_post (λ κs s. s.1.1.1.1.0.
 save_marks_once κs args x y s t p q = p.1 ∙ sym q.1
 
 -- Whatever rows `used` and `load` leave, they hold the same frames in the same order.
-pub holds-once : {s : List Frame} {log next stale heads log' next' stale' heads' : List ℕ} {q q' : Queue} → Holds s log next stale heads q → Holds s log' next' stale' heads' q'
+pub holds_once : {s : List Frame} {log next stale heads log' next' stale' heads' : List ℕ} {q q' : Queue} → Holds s log next stale heads q → Holds s log' next' stale' heads' q'
     → frames log stale q ≡ frames log' stale' q'
-holds-once p t = p.frames-are ∙ sym t.frames-are
+holds_once p t = p.frames_are ∙ sym t.frames_are
 
 -- Any two evictions leave the same frames, and tell the same one.
 pub evict_once : {log stale : List ℕ} {q : Queue} {r r' : Evicted} → Gone log stale q r → Gone log stale q r'
     → (frames log stale r.queue ≡ frames log stale r'.queue) × (framed r.page r.written ≡ framed r'.page r'.written)
-evict_once p t = (p.frames-are ∙ sym t.frames-are, ap (λ (o : Option Frame). get_or o blank) (sym p.last_is ∙ t.last_is))
+evict_once p t = (p.frames_are ∙ sym t.frames_are, ap (λ (o : Option Frame). get_or o blank) (sym p.last_is ∙ t.last_is))

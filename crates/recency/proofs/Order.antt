@@ -19,9 +19,9 @@ module _ (x : ℕ) (l : List ℕ) where
   unfolding lasts
   lasts_stale h = rw h
 
-  pub lasts-live : has x l ≡ false → lasts (x ∷ l) ≡ x ∷ lasts l
+  pub lasts_live : has x l ≡ false → lasts (x ∷ l) ≡ x ∷ lasts l
   unfolding lasts
-  lasts-live h = rw h
+  lasts_live h = rw h
 
   -- A stale place in front does not count,
   pub order_stale : has x l ≡ true → order (x ∷ l) ≡ order l
@@ -29,9 +29,9 @@ module _ (x : ℕ) (l : List ℕ) where
   order_stale h = rw (lasts_stale h)
 
   -- and one that is not is the last of the order.
-  pub order-live : has x l ≡ false → order (x ∷ l) ≡ order l ++ (x ∷ [])
+  pub order_live : has x l ≡ false → order (x ∷ l) ≡ order l ++ (x ∷ [])
   unfolding order
-  order-live h = rw (lasts-live h) (reverse-cons x (lasts l))
+  order_live h = rw (lasts_live h) (reverse-cons x (lasts l))
 
 -- They are the pages of the log.
 pub has-lasts : (x : ℕ) (l : List ℕ) → has x (lasts l) ≡ has x l
@@ -43,30 +43,30 @@ has-lasts x (q ∷ l) =
     (λ h. rw (h, has-lasts x l))
 
 -- None of them stands twice,
-pub distinct-lasts : (l : List ℕ) → Distinct (lasts l)
+pub distinct_lasts : (l : List ℕ) → Distinct (lasts l)
 unfolding lasts
-distinct-lasts [] = tt
-distinct-lasts (q ∷ l) = split (has q l) (λ h. rw h (distinct-lasts l)) (λ h. rw h (has-lasts q l ∙ h, distinct-lasts l))
+distinct_lasts [] = tt
+distinct_lasts (q ∷ l) = split (has q l) (λ h. rw h (distinct_lasts l)) (λ h. rw h (has-lasts q l ∙ h, distinct_lasts l))
 
 -- and where none does, each is a last place.
-pub lasts-distinct : (l : List ℕ) → Distinct l → lasts l ≡ l
+pub lasts_distinct : (l : List ℕ) → Distinct l → lasts l ≡ l
 unfolding lasts
-lasts-distinct [] d = refl
-lasts-distinct (q ∷ l) d = rw d.0 (ap (λ (t : List ℕ). q ∷ t) (lasts-distinct l d.1))
+lasts_distinct [] d = refl
+lasts_distinct (q ∷ l) d = rw d.0 (ap (λ (t : List ℕ). q ∷ t) (lasts_distinct l d.1))
 
-pub order-distinct : (l : List ℕ) → Distinct l → order l ≡ reverse l
+pub order_distinct : (l : List ℕ) → Distinct l → order l ≡ reverse l
 unfolding order
-order-distinct l d = rw (lasts-distinct l d)
+order_distinct l d = rw (lasts_distinct l d)
 
 pub length-order : (l : List ℕ) → length (order l) ≡ length (lasts l)
 unfolding order
 length-order l = length-reverse (lasts l)
 
 -- There are no more of them than places.
-pub lasts-most : (l : List ℕ) → length (lasts l) ≤ length l
+pub lasts_most : (l : List ℕ) → length (lasts l) ≤ length l
 unfolding lasts
-lasts-most [] = omega arith
-lasts-most (q ∷ l) = let h = lasts-most l in split (has q l) (λ e. rw e (omega arith)) (λ e. rw e (omega arith))
+lasts_most [] = omega arith
+lasts_most (q ∷ l) = let h = lasts_most l in split (has q l) (λ e. rw e (omega arith)) (λ e. rw e (omega arith))
 
 -- ---- the order
 
@@ -82,7 +82,7 @@ has-order x [] = refl
 has-order x (q ∷ l) =
     split (has q l)
     (λ h. rw (order_stale q l h, has-order x l) (split (eqb x q) (λ e. rw (e, same x q e, h)) (λ e. rw e)))
-    (λ h. rw (order-live q l h, has_join x (order l) (q ∷ []), has-order x l) (swap (eqb x q) (has x l)))
+    (λ h. rw (order_live q l h, has_join x (order l) (q ∷ []), has-order x l) (swap (eqb x q) (has x l)))
 
 one : {x : ℕ} → order (x ∷ []) ≡ x ∷ remove x (order [])
 unfolding order lasts has remove
@@ -99,6 +99,6 @@ order_use x (y ∷ l) =
     (λ h. split (eqb y x)
     (λ e. let g : has y (l ++ (x ∷ [])) ≡ true = rw (has_join y l (x ∷ []), h, e) in
     let n : has x (order l) ≡ false = rw (has-order x l, ← same y x e, h) in
-    rw (order_stale y (l ++ (x ∷ [])) g, order-live y l h, order_use x l, remove-append x (order l) (y ∷ []) n, remove_absent x (order l) n, eqb_sym x y, e, append-nil))
+    rw (order_stale y (l ++ (x ∷ [])) g, order_live y l h, order_use x l, remove-append x (order l) (y ∷ []) n, remove_absent x (order l) n, eqb_sym x y, e, append-nil))
     (λ e. let g : has y (l ++ (x ∷ [])) ≡ false = rw (has_join y l (x ∷ []), h, e) in
-    rw (order-live y (l ++ (x ∷ [])) g, order-live y l h, order_use x l, remove-snoc x y (order l) (eqb_sym x y ∙ e))))
+    rw (order_live y (l ++ (x ∷ [])) g, order_live y l h, order_use x l, remove-snoc x y (order l) (eqb_sym x y ∙ e))))

@@ -10,12 +10,12 @@ use lib.Dec.{eqb}
 use borrow.Author.Tests.{eqb-false, ne_eqb}
 use Rattle.pages.specs.Pages.{has}
 use Rattle.pages.proofs.Choice.{split, same}
-use Rattle.pages.proofs.Rows.{drop-next, store_done}
+use Rattle.pages.proofs.Rows.{drop_next, store_done}
 use Rattle.recency.specs.Order.{lasts}
 use Rattle.recency.specs.Held.{part, wrote, CanPack, Packed}
-use Rattle.recency.proofs.Order.{lasts-live, lasts_stale}
-use Rattle.recency.proofs.Counting.{part-next, part_none, place-live, place_stale}
-use Rattle.recency.proofs.Places.{wrote-live}
+use Rattle.recency.proofs.Order.{lasts_live, lasts_stale}
+use Rattle.recency.proofs.Counting.{part_next, part_none, place_live, place_stale}
+use Rattle.recency.proofs.Places.{wrote_live}
 
 -- Of those from low up to end of log₀ the ones before r are looked at, and those among them that count are the first w now.
 pub record Packing (log₀ stale₀ : List ℕ) (low end : ℕ) (log stale : List ℕ) (r w : ℕ) : Type 0 where
@@ -49,7 +49,7 @@ module _ {log₀ stale₀ : List ℕ} {low end : ℕ} (can : CanPack log₀ stal
     module _ (h : r < end) where
       -- The place is as it was, and so are those after it.
       next : get_or log r 0 ∷ drop (r + 1) log ≡ get_or log₀ r 0 ∷ drop (r + 1) log₀
-      next = sym (drop-next log r 0 (omega (arith, p.same_length, can.within))) ∙ p.rest ∙ drop-next log₀ r 0 (omega (arith, can.within))
+      next = sym (drop_next log r 0 (omega (arith, p.same_length, can.within))) ∙ p.rest ∙ drop_next log₀ r 0 (omega (arith, can.within))
 
       place_is : get_or log r 0 ≡ get_or log₀ r 0
       place_is = let n = next in cc
@@ -96,14 +96,14 @@ module _ {log₀ stale₀ : List ℕ} {low end : ℕ} (can : CanPack log₀ stal
             stale_length = rw length-set p.stale_length;
             rest = left;
             rest_says = left_says;
-            done = p.done ∙ rw (part-next log₀ end can.within r h, lasts_stale (get_or log₀ r 0) after d, take-set-le w log w (get_or log r 0) (omega arith));
+            done = p.done ∙ rw (part_next log₀ end can.within r h, lasts_stale (get_or log₀ r 0) after d, take-set-le w log w (get_or log r 0) (omega arith));
             live = λ j g. rw (kept_says j g) (p.live j g);
             said = λ j g. rw (kept_says j g, kept_log j g) (p.said j g);
           }
 
       module _ (n : get_or stale r 0 ≡ 1 → ⊥) where
         here : has (get_or log₀ r 0) after ≡ false
-        here = place-live can.marked p.from h (λ e. n (p.rest_says r (omega arith) ∙ e))
+        here = place_live can.marked p.from h (λ e. n (p.rest_says r (omega arith) ∙ e))
 
         live_more : (j : ℕ) → j < w + 1 → eqb (get_or (set stale w (get_or stale r 0)) j 0) 1 ≡ false
         live_more j g =
@@ -117,7 +117,7 @@ module _ {log₀ stale₀ : List ℕ} {low end : ℕ} (can : CanPack log₀ stal
             split (eqb j w)
             (λ e.
             rw (same j w e, get_or-set_same stale w (get_or stale r 0) 0 packing_says, get_or-set_same log w (get_or log r 0) 0 packing_writes, place_is, p.rest_says r (omega arith))
-            (sym (wrote-live log₀ low end can.within stale₀ r p.from h here)))
+            (sym (wrote_live log₀ low end can.within stale₀ r p.from h here)))
             (λ e. let d = eqb-false j w e in let o : j < w = omega arith in rw (kept_says j o, kept_log j o) (p.said j o))
 
         pub packing_kept : Packing log₀ stale₀ low end (set log w (get_or log r 0)) (set stale w (get_or stale r 0)) (r + 1) (w + 1)
@@ -129,7 +129,7 @@ module _ {log₀ stale₀ : List ℕ} {low end : ℕ} (can : CanPack log₀ stal
           stale_length = rw length-set p.stale_length;
           rest = left;
           rest_says = left_says;
-          done = p.done ∙ rw (part-next log₀ end can.within r h, lasts-live (get_or log₀ r 0) after here, store_done log w (get_or log r 0) (lasts after) packing_writes, place_is);
+          done = p.done ∙ rw (part_next log₀ end can.within r h, lasts_live (get_or log₀ r 0) after here, store_done log w (get_or log r 0) (lasts after) packing_writes, place_is);
           live = live_more;
           said = said_more;
         }

@@ -11,7 +11,7 @@ use lib.Dec.{eqb, ltb}
 use borrow.Author.Tests.{lt-ltb, ltb-true, ltb-false}
 use Rattle.pages.specs.Pages.{has, place}
 use Rattle.pages.proofs.Choice.{split}
-use Rattle.pages.proofs.Table.{has_get_d, get_d_place, place-within}
+use Rattle.pages.proofs.Table.{has_get_d, get_d_place, place_within}
 use Rattle.chains.specs.Chains.{at, newest}
 use Rattle.chains.proofs.Newest.{newest-at, newest_beyond, newest_same}
 use Rattle.recency.specs.Linked.{last_from}
@@ -43,7 +43,7 @@ module _ (log : List ℕ) (low end p : ℕ) (behind : low ≤ end) (within : end
       (λ t. split (has p (part log low end))
       (λ h.
       let j = place p (part log low end) in
-      let w = place-within p (part log low end) h in
+      let w = place_within p (part log low end) h in
       let g = get_d_place p (part log low end) h in
       let o : low + j < end = omega (arith, long) in
       absurd (newest_beyond (at log) p end (low + j) (omega (arith, ltb-false low (newest (at log) p end) t)) o (sym (reads j o) ∙ g)))
@@ -53,9 +53,9 @@ module _ (log : List ℕ) (low end p : ℕ) (behind : low ≤ end) (within : end
 
 module _ (log : List ℕ) (low end : ℕ) (within : end ≤ length log) where
   -- A place behind which its page does not stand is the page's last.
-  pub last-live : (r : ℕ) → low ≤ r → r < end → has (get_or log r 0) (drop (r + 1) (take end log)) ≡ false → last_from low log end (get_or log r 0) ≡ r + 1
+  pub last_live : (r : ℕ) → low ≤ r → r < end → has (get_or log r 0) (drop (r + 1) (take end log)) ≡ false → last_from low log end (get_or log r 0) ≡ r + 1
   unfolding last_from at
-  last-live r f h n =
+  last_live r f h n =
       let p = get_or log r 0 in
       let e = newest (at log) p end in
       let u = ltb-false (r + 1) e (sym (has_last log (r + 1) end p (omega arith) within) ∙ n) in
@@ -64,10 +64,10 @@ module _ (log : List ℕ) (low end : ℕ) (within : end ≤ length log) where
       rw (z, lt-ltb low (r + 1) (omega arith))
 
   -- It says whether the page was written.
-  pub wrote-live : (stale : List ℕ) (r : ℕ) → low ≤ r → r < end → has (get_or log r 0) (drop (r + 1) (take end log)) ≡ false
+  pub wrote_live : (stale : List ℕ) (r : ℕ) → low ≤ r → r < end → has (get_or log r 0) (drop (r + 1) (take end log)) ≡ false
       → wrote log stale low end (get_or log r 0) ≡ eqb (get_or stale r 0) 2
   unfolding wrote
-  wrote-live stale r f h n = let z : r + 1 - 1 ≡ r = omega arith in rw (last-live r f h n, z)
+  wrote_live stale r f h n = let z : r + 1 - 1 ≡ r = omega arith in rw (last_live r f h n, z)
 
   -- A page that stands from a later place on has its last place there.
   pub last_same : (low' p : ℕ) → low ≤ low' → low' ≤ end → has p (part log low' end) ≡ true → last_from low' log end p ≡ last_from low log end p
@@ -83,9 +83,9 @@ module _ (log : List ℕ) (low end : ℕ) (within : end ≤ length log) where
 
 module _ (log : List ℕ) (low end p : ℕ) (behind : low ≤ end) (within : end ≤ length log) where
   -- The last place of a page that is there.
-  pub last-place : has p (part log low end) ≡ true → (e : ℕ) → e ≡ last_from low log end p → (low < e) × (e ≤ end) × (get_or log (e - 1) 0 ≡ p)
+  pub last_place_lem : has p (part log low end) ≡ true → (e : ℕ) → e ≡ last_from low log end p → (low < e) × (e ≤ end) × (get_or log (e - 1) 0 ≡ p)
   unfolding last_from at
-  last-place h e k =
+  last_place_lem h e k =
       let n = newest (at log) p end in
       let u = ltb-true low n (sym (has_last log low end p behind within) ∙ h) in
       let z : e ≡ n = rw (lt-ltb low n u) at k in

@@ -17,9 +17,9 @@ use Rattle.frames.proofs.By.{pages_by, marks_by}
 use Rattle.recency.specs.Order.{lasts, order}
 use Rattle.recency.specs.Held.{part, residents, wrote, frames, CanSave}
 use Rattle.recency.specs.declared.Queue.{Queue}
-use Rattle.recency.proofs.Order.{order-live, order_stale, length-order}
-use Rattle.recency.proofs.Counting.{part-next, part_none, place-live, place_stale, lasts_grow}
-use Rattle.recency.proofs.Places.{wrote-live}
+use Rattle.recency.proofs.Order.{order_live, order_stale, length-order}
+use Rattle.recency.proofs.Counting.{part_next, part_none, place_live, place_stale, lasts_grow}
+use Rattle.recency.proofs.Places.{wrote_live}
 
 -- Those from place r on are.
 pub record Saving (log stale : List ℕ) (low end : ℕ) (list₀ : List ℕ) (kept₀ : List Bool) (list : List ℕ) (kept : List Bool) (i r : ℕ) : Type 0 where
@@ -59,7 +59,7 @@ module _ {log stale : List ℕ} {q : Queue} {list₀ : List ℕ} {kept₀ : List
       one = omega arith
 
       next : drop (r - 1) (take q.now log) ≡ page ∷ behind
-      next = part-next log q.now can.logged.within (r - 1) (omega (arith, p.within)) ∙ rw one
+      next = part_next log q.now can.logged.within (r - 1) (omega (arith, p.within)) ∙ rw one
 
       pub saving_passed : get_or stale (r - 1) 0 ≡ 1 → Saving log stale q.low q.now list₀ kept₀ list kept i (r - 1)
       saving_passed n =
@@ -88,10 +88,10 @@ module _ {log stale : List ℕ} {q : Queue} {list₀ : List ℕ} {kept₀ : List
 
       module _ (n : get_or stale (r - 1) 0 ≡ 1 → ⊥) where
         again : has page (drop (r - 1 + 1) (take q.now log)) ≡ false
-        again = place-live can.logged.marked {r = r - 1} (omega arith) (omega (arith, p.within)) n
+        again = place_live can.logged.marked {r = r - 1} (omega arith) (omega (arith, p.within)) n
 
         live : order (drop (r - 1) (take q.now log)) ≡ order behind ++ (page ∷ [])
-        live = rw next (order-live page behind (rw one at again))
+        live = rw next (order_live page behind (rw one at again))
 
         grown : length (order (drop (r - 1) (take q.now log))) ≡ i + 1
         grown = ap length live ∙ length-append (order behind) (page ∷ []) ∙ omega (arith, p.count)
@@ -110,7 +110,7 @@ module _ {log stale : List ℕ} {q : Queue} {list₀ : List ℕ} {kept₀ : List
 
         -- Its place says whether it was written.
         mark_is : mark page ≡ eqb (get_or stale (r - 1) 0) 2
-        mark_is = wrote-live log q.low q.now can.logged.within stale (r - 1) (omega arith) (omega (arith, p.within)) again
+        mark_is = wrote_live log q.low q.now can.logged.within stale (r - 1) (omega arith) (omega (arith, p.within)) again
 
         marks_more : set kept i (eqb (get_or stale (r - 1) 0) 2) ≡ over (map mark (order (drop (r - 1) (take q.now log)))) kept₀
         marks_more =

@@ -52,7 +52,7 @@ pub record Held (log next stale heads : List ℕ) (q : Queue) : Type 0 where
 -- The rows hold a cache whose frames are s.
 pub record Holds (s : List Frame) (log next stale heads : List ℕ) (q : Queue) : Type 0 where
   pub held : Held log next stale heads q
-  pub frames-are : frames log stale q ≡ s
+  pub frames_are : frames log stale q ≡ s
 
 -- ---- the log made short
 
@@ -60,7 +60,7 @@ pub record Holds (s : List Frame) (log next stale heads : List ℕ) (q : Queue) 
 pub record CanIndex (log next heads : List ℕ) (n : ℕ) : Type 0 where
   pub within : n ≤ length log
   pub small : length log ≤ 65535
-  pub next-long : length log ≤ length next
+  pub next_long : length log ≤ length next
   pub heads_long : buckets ≤ length heads
 
 -- The stale places are known.
@@ -132,7 +132,7 @@ pub record Gone (log stale : List ℕ) (q : Queue) (r : Evicted) : Type 0 where
   pub logged : Logged log stale r.queue
   pub from : q.low ≤ r.queue.low
   pub now_is : r.queue.now ≡ q.now
-  pub frames-are : frames log stale r.queue ≡ drop_last (frames log stale q)
+  pub frames_are : frames log stale r.queue ≡ drop_last (frames log stale q)
   pub last_is : get_last? (frames log stale q) ≡ some (framed r.page r.written)
 
 -- ---- a start and an end
@@ -145,16 +145,16 @@ pub record CanCopy (list : List ℕ) (kept : List Bool) (log stale : List ℕ) :
 
 -- It is: the page at place j of the list stands as far from the end of what was put in, and its mark with it.
 pub record Copied (list : List ℕ) (kept : List Bool) (log log' stale' : List ℕ) : Type 0 where
-  pub pages-are : log' ≡ over (reverse list) log
+  pub pages_are : log' ≡ over (reverse list) log
   pub pages-at : (j : ℕ) → j < length list → get_or log' (length list - 1 - j) 0 ≡ get_or list j 0
-  pub marks-at : (j : ℕ) → j < length list → get_or stale' (length list - 1 - j) 0 ≡ state_of (get_or kept j false)
+  pub marks_at : (j : ℕ) → j < length list → get_or stale' (length list - 1 - j) 0 ≡ state_of (get_or kept j false)
 
 -- The frames of two columns can be the resident ones.
 pub record CanLoad (list : List ℕ) (kept : List Bool) (log next stale heads : List ℕ) : Type 0 where
   pub marks : length kept ≡ length list
   pub few : length list < length log
   pub small : length log ≤ 65535
-  pub next-long : length log ≤ length next
+  pub next_long : length log ≤ length next
   pub stale_long : length log ≤ length stale
   pub heads_long : buckets ≤ length heads
   pub once : Distinct list

@@ -19,7 +19,7 @@ pub record Linked (log next heads : List ℕ) (n : ℕ) : Type 0 where
   pub chained : Chained (bucket_at log) n 0 heads next
   pub within : n ≤ length log
   pub small : length log ≤ 65535
-  pub next-long : length log ≤ length next
+  pub next_long : length log ≤ length next
   pub heads_long : buckets ≤ length heads
 
 -- Place c can be chained: those before it are.

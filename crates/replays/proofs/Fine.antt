@@ -16,21 +16,21 @@ use Rattle.replays.specs.Replay.{twice, bad_start}
 use Rattle.replays.specs.Promises.{StartsFine, FineStarts}
 
 -- Whether a page stands twice, both ways.
-distinct-once : (l : List ℕ) → twice l ≡ false → Distinct l
+distinct_once : (l : List ℕ) → twice l ≡ false → Distinct l
 unfolding twice
-distinct-once [] e = tt
-distinct-once (p ∷ l) e = let z = or_false (has p l) (twice l) e in (z.0, distinct-once l z.1)
+distinct_once [] e = tt
+distinct_once (p ∷ l) e = let z = or_false (has p l) (twice l) e in (z.0, distinct_once l z.1)
 
-once-distinct : (l : List ℕ) → Distinct l → twice l ≡ false
+once_distinct : (l : List ℕ) → Distinct l → twice l ≡ false
 unfolding twice
-once-distinct [] d = refl
-once-distinct (p ∷ l) d = rw d.0 (once-distinct l d.1)
+once_distinct [] d = refl
+once_distinct (p ∷ l) d = rw d.0 (once_distinct l d.1)
 
 -- Distinct pages, no more than K, in a row with room for K, are not refused.
 pub fine_starts : FineStarts
 unfolding bad_start
 fine_starts K frames resident few places d =
-    rw (le-ltb K resident few, pages-count frames, le-ltb (length frames) K places, once-distinct (take resident (pages_of frames)) (rw (pages-take resident frames) at d))
+    rw (le-ltb K resident few, pages-count frames, le-ltb (length frames) K places, once_distinct (take resident (pages_of frames)) (rw (pages-take resident frames) at d))
 
 -- A start that is not refused is a list of distinct pages with room for K.
 pub starts_fine : StartsFine
@@ -41,4 +41,4 @@ starts_fine K frames resident e =
     let a = or_false (ltb K resident) (ltb (length cache) K || twice s) e in
     let b = or_false (ltb (length cache) K) (twice s) a.1 in
     let h = ltb-false K resident a.0 in
-    record { distinct = rw (pages-take resident frames) (distinct-once s b.1); room = rw length-take (omega arith) }
+    record { distinct = rw (pages-take resident frames) (distinct_once s b.1); room = rw length-take (omega arith) }

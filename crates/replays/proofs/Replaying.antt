@@ -10,7 +10,7 @@ use Rattle.pages.specs.Rows.{over}
 use Rattle.pages.specs.Pages.{Distinct}
 use Rattle.frames.specs.Frames.{pages_of, marks_of, frames_of}
 use Rattle.frames.specs.declared.Frame.{Frame}
-use Rattle.frames.proofs.Columns.{frames-pages, frames-marks, pages-over, marks-over, pages-take}
+use Rattle.frames.proofs.Columns.{frames-pages, frames_marks, pages_over, marks_over, pages-take}
 use Rattle.trace.specs.Layout.{header, items, items_from}
 use Rattle.trace.specs.Refusals.{row}
 use Rattle.trace.specs.declared.Header.{Header}
@@ -20,7 +20,7 @@ use Rattle.trace.specs.declared.Verdict.{Verdict}
 use Rattle.trace.specs.declared.Verdict.TheVariants.{Sound, Faulty}
 use Rattle.trace.proofs.Allowed.{allowed_facts}
 use Rattle.trace.proofs.Checking.{sound_file}
-use Rattle.trace.proofs.Items.{items-from, length_from}
+use Rattle.trace.proofs.Items.{items_from_lem, length_from}
 use Rattle.lru_cache.specs.Lru.{replay, words}
 use Rattle.lru_cache.specs.Tally.{nothing, tally, per_million}
 use Rattle.replays.specs.Replay.{bad_start, replay_verdict, replay_of, summary_of, replay_answer, frames_after, events_after}
@@ -28,7 +28,7 @@ use Rattle.lru_cache.specs.Passes.{CanRun, Ran}
 use Rattle.lru_cache.specs.declared.Finish.{Finish}
 use Rattle.replays.specs.declared.Summary.{Summary}
 use Rattle.replays.specs.declared.Replayed.TheVariants.{Done, Refused}
-use Rattle.lru_cache.proofs.Counting.{tally_counts, fetches-few}
+use Rattle.lru_cache.proofs.Counting.{tally_counts, fetches_few}
 use Rattle.replays.proofs.Judging.{Playable, sound_playable}
 use Rattle.replays.proofs.Fine.{starts_fine}
 
@@ -36,15 +36,15 @@ module _ (f : List ℕ) (K : ℕ) (cache : List ℕ) (kept : List Bool) (residen
   abbrev frames : List Frame
   frames = frames_of cache kept
 
-  pages-are : pages_of frames ≡ cache
-  pages-are = frames-pages cache kept m
+  pages_are : pages_of frames ≡ cache
+  pages_are = frames-pages cache kept m
 
-  marks-are : marks_of frames ≡ kept
-  marks-are = frames-marks cache kept m
+  marks_are : marks_of frames ≡ kept
+  marks_are = frames_marks cache kept m
 
   module _ {v : Verdict} (e : v ≡ replay_verdict f K cache resident (length events)) where
     judged : replay_verdict f K (pages_of frames) resident (length events) ≡ v
-    judged = rw pages-are (sym e)
+    judged = rw pages_are (sym e)
 
     -- ---- a refusal is told, and changes nothing
 
@@ -55,15 +55,15 @@ module _ (f : List ℕ) (K : ℕ) (cache : List ℕ) (kept : List Bool) (residen
 
       pub refused_cache : cache ≡ pages_of (frames_after f K frames resident (length events))
       unfolding frames_after
-      refused_cache = rw (judged, q, frames_after) (sym pages-are)
+      refused_cache = rw (judged, q, frames_after) (sym pages_are)
 
       pub refused-kept : kept ≡ marks_of (frames_after f K frames resident (length events))
       unfolding frames_after
-      refused-kept = rw (judged, q, frames_after) (sym marks-are)
+      refused-kept = rw (judged, q, frames_after) (sym marks_are)
 
-      pub refused-events : events ≡ events_after f K frames resident events
+      pub refused_events : events ≡ events_after f K frames resident events
       unfolding events_after
-      refused-events = rw (judged, q, events_after)
+      refused_events = rw (judged, q, events_after)
 
     -- ---- a replay is told, and stands in the buffers
 
@@ -77,11 +77,11 @@ module _ (f : List ℕ) (K : ℕ) (cache : List ℕ) (kept : List Bool) (residen
 
       pub done_cache : {cache' : List ℕ} → cache' ≡ over (pages_of (replay_of f K frames resident).final) cache → cache' ≡ pages_of (frames_after f K frames resident (length events))
       unfolding frames_after
-      done_cache t = t ∙ rw (judged, s, frames_after, pages-over (replay_of f K frames resident).final frames, pages-are)
+      done_cache t = t ∙ rw (judged, s, frames_after, pages_over (replay_of f K frames resident).final frames, pages_are)
 
       pub done_kept : {kept' : List Bool} → kept' ≡ over (marks_of (replay_of f K frames resident).final) kept → kept' ≡ marks_of (frames_after f K frames resident (length events))
       unfolding frames_after
-      done_kept t = t ∙ rw (judged, s, frames_after, marks-over (replay_of f K frames resident).final frames, marks-are)
+      done_kept t = t ∙ rw (judged, s, frames_after, marks_over (replay_of f K frames resident).final frames, marks_are)
 
       pub done_events : {events' : List ℕ} → events' ≡ over (words (replay_of f K frames resident).events) events → events' ≡ events_after f K frames resident events
       unfolding events_after
@@ -97,59 +97,59 @@ module _ (f : List ℕ) (K : ℕ) (cache : List ℕ) (kept : List Bool) (residen
     long = (sound_file f able.file_is).long
 
     -- The header can be read.
-    pub played-long : 23 ≤ length f
-    played-long = omega (arith, long)
+    pub played_long : 23 ≤ length f
+    played_long = omega (arith, long)
 
     module _ {h : Header} (q : h ≡ header f) where
       -- The loop may begin.
       pub played_run : CanRun f h.items K resident cache kept events
       played_run =
           let a = able in
-          let b : bad_start K (pages_of frames) resident ≡ false = rw pages-are a.start_is in
+          let b : bad_start K (pages_of frames) resident ≡ false = rw pages_are a.start_is in
           let d : Distinct (pages_of (take resident frames)) = (starts_fine K frames resident b).distinct in
           rw q (record {
-            file-long = omega (arith, long);
+            file_long = omega (arith, long);
             few = (allowed_facts (header f) (sound_file f a.file_is).keeps).few;
             some = a.least;
             most = a.most;
             places = a.places;
             marks = m;
             within = a.within;
-            once = rw (pages-take resident frames, pages-are) at d;
+            once = rw (pages-take resident frames, pages_are) at d;
             room = a.fits;
           })
 
       module _ {r : Finish} {cache' : List ℕ} {kept' : List Bool} {events' : List ℕ}
           (d : Ran (replay K (take resident frames) (items_from f 0 h.items)) (tally K (take resident frames) nothing (items_from f 0 h.items))
           cache kept events r cache' kept' events') where
-        items-are : items_from f 0 h.items ≡ items f
-        items-are = rw (q, items-from f)
+        items_are : items_from f 0 h.items ≡ items f
+        items_are = rw (q, items_from_lem f)
 
         -- There are no more fetches than items.
-        pub played-few : r.tally.fetches ≤ items_most
-        played-few =
+        pub played_few : r.tally.fetches ≤ items_most
+        played_few =
             let t = items_from f 0 h.items in
             let c = tally_counts K (take resident frames) t in
             let n = played_run in
-            rw d.tally_is (omega (arith, fetches-few K (take resident frames) t, length_from f 0 h.items, n.few))
+            rw d.tally_is (omega (arith, fetches_few K (take resident frames) t, length_from f 0 h.items, n.few))
 
         -- The answer is the tally, the residents and the rate.
         pub played_summary : {p : ℕ} → p ≡ per_million r.tally.fetches r.tally.items
             → ◌≡◌ {A = Summary} (record { items = r.tally.items; fetches = r.tally.fetches; evictions = r.tally.evictions; resident = r.resident; permillion = p })
             (summary_of f K frames resident)
         unfolding summary_of replay_of
-        played_summary w = rw (w, d.tally_is, d.resident_is, items-are)
+        played_summary w = rw (w, d.tally_is, d.resident_is, items_are)
 
         -- The columns hold the residents and their marks.
         pub played_cache : cache' ≡ over (pages_of (replay_of f K frames resident).final) cache
         unfolding replay_of
-        played_cache = d.cache_is ∙ rw items-are
+        played_cache = d.cache_is ∙ rw items_are
 
-        pub played-kept : kept' ≡ over (marks_of (replay_of f K frames resident).final) kept
+        pub played_kept : kept' ≡ over (marks_of (replay_of f K frames resident).final) kept
         unfolding replay_of
-        played-kept = d.kept_is ∙ rw items-are
+        played_kept = d.kept_is ∙ rw items_are
 
         -- And the events are written.
-        pub played-events : events' ≡ over (words (replay_of f K frames resident).events) events
+        pub played_events : events' ≡ over (words (replay_of f K frames resident).events) events
         unfolding replay_of
-        played-events = d.events-are ∙ rw items-are
+        played_events = d.events_are ∙ rw items_are

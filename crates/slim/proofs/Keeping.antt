@@ -12,20 +12,20 @@ use borrow.Author.Tests.{ltb-true, lt-ltb, le-ltb, eqb-false}
 use Rattle.pages.specs.Rows.{cons_if}
 use Rattle.pages.specs.Pages.{has, add, place}
 use Rattle.pages.proofs.Choice.{split, same, eqb_self}
-use Rattle.pages.proofs.Added.{add_old, has-add, length-new, length-add, add-begins}
+use Rattle.pages.proofs.Added.{add_old, has-add, length_new, length-add, add-begins}
 use Rattle.trace.specs.Layout.{encode_item, encode_items, item_at, items_from}
 use Rattle.trace.specs.declared.Item.{Item}
-use Rattle.trace.proofs.Items.{from_turn, from-none}
-use Rattle.trace.proofs.Output.{Wrote, wrote_none, wrote_one, wrote_then, wrote-long}
+use Rattle.trace.proofs.Items.{from_turn, from_none}
+use Rattle.trace.proofs.Output.{Wrote, wrote_none, wrote_one, wrote_then, wrote_long}
 use Rattle.epochs.specs.Epochs.{pages, touched}
 use Rattle.epochs.specs.Keep.{is_first, is_last, keeps, kept, owe, lost}
 use Rattle.epochs.specs.declared.Mode.TheVariants.{Demand}
-use Rattle.epochs.proofs.Kept.{first-kept, last-kept}
+use Rattle.epochs.proofs.Kept.{first-kept, last_kept}
 use Rattle.slim.specs.Passes.{last_place, Noted, NoneNoted, flags_set, CanKeep, kept_there, Owes, Flags}
-use Rattle.slim.proofs.Flags.{place-taken, owes-new, owes_more, flags-new, flags_more, flags-most}
-use Rattle.pages.proofs.Table.{has-taken, has_within, place-within}
+use Rattle.slim.proofs.Flags.{place-taken, owes_new, owes_more, flags_new, flags_more, flags_most}
+use Rattle.pages.proofs.Table.{has-taken, has_within, place_within}
 use Rattle.filter.specs.Filter.{Notes, FirstNoted, Clear}
-use Rattle.filter.proofs.Noting.{notes-long, notes-told}
+use Rattle.filter.proofs.Noting.{notes_long, notes_told}
 use Rattle.filter.proofs.Finding.{first-after}
 
 -- ---- the filter after a stretch begins with the filter before it
@@ -45,8 +45,8 @@ module _ (F seen : List ℕ) (t : List Item) (h : F ≡ touched seen t) where
   filter_grows = let r = touched-begins seen t in rw (h, r.1, length-append) (omega arith)
 
   -- Its first places are the filter before the stretch.
-  pub filter-begins : take (length seen) F ≡ seen
-  filter-begins = let r = touched-begins seen t in ap (take (length seen)) (h ∙ r.1) ∙ take-append_seam seen r.0
+  pub filter_begins : take (length seen) F ≡ seen
+  filter_begins = let r = touched-begins seen t in ap (take (length seen)) (h ∙ r.1) ∙ take-append_seam seen r.0
 
 -- ---- what is left of a stretch
 
@@ -65,7 +65,7 @@ pub record Owing (F flags : List ℕ) (c : ℕ) (v : List Item) (all : List ℕ)
 -- A turn passes the item x and leaves v: the filter then has c' pages, the items a, which are x or none, are kept, and the flags say what is owed.
 record Turn (F last flags : List ℕ) (k c : ℕ) (x : Item) (v : List Item) (c' : ℕ) (a : List Item) (flags' : List ℕ) : Type 0 where
   next : Left F last (k + 1) c' v
-  kept-are : kept Demand (take c F) (x ∷ v) ≡ a ++ kept Demand (take c' F) v
+  kept_are : kept Demand (take c F) (x ∷ v) ≡ a ++ kept Demand (take c' F) v
   owes : (owed : List ℕ) → Owes (take c F) flags owed → Owing F flags' c' v (lost Demand (take c F) owed (x ∷ v))
 
 module _ {F last : List ℕ} {k c : ℕ} {x : Item} {v : List Item} (l : Left F last k c (x ∷ v)) where
@@ -82,14 +82,14 @@ module _ {F last : List ℕ} {k c : ℕ} {x : Item} {v : List Item} (l : Left F 
   unfolding has pages last_place kept lost
   turn {c'} a e f g =
       let s = add x.page (take c F) in
-      let q : s ≡ take c' F = sym (rw e at (filter-begins F s v after)) in
+      let q : s ≡ take c' F = sym (rw e at (filter_begins F s v after)) in
       record {
         next = record {
           before = omega (arith, filter_grows F s v after);
           filter_is = after ∙ ap (λ (t : List ℕ). touched t v) q;
           last_noted = λ p h. l.last_noted p (rw (h, or-true)) ∙ rw h (omega arith);
         };
-        kept-are = f (kept Demand s v) ∙ ap (λ (t : List ℕ). a ++ kept Demand t v) q;
+        kept_are = f (kept Demand s v) ∙ ap (λ (t : List ℕ). a ++ kept Demand t v) q;
         owes = λ owed o. record {
           now_owed = owe (keeps Demand (take c F) x v) x owed;
           owes = rw q at (g owed o);
@@ -104,7 +104,7 @@ module _ {F last : List ℕ} {k c : ℕ} {x : Item} {v : List Item} (l : Left F 
       let s = add p (take c F) in
       let g = filter_grows F s v after in
       let a : has p s ≡ true = rw (has-add p (take c F) p, eqb_self p) (or-true (has p (take c F))) in
-      let b : place p F < length s = ltb-true (place p F) (length s) (sym (has-taken p (length s) F g) ∙ rw (filter-begins F s v after) a) in
+      let b : place p F < length s = ltb-true (place p F) (length s) (sym (has-taken p (length s) F g) ∙ rw (filter_begins F s v after) a) in
       (omega (arith, length-add p (take c F), length-take-le c F l.before), has_within p F (omega arith))
 
   module _ {j : ℕ} (q : j ≡ place x.page F) where
@@ -128,7 +128,7 @@ module _ {F last : List ℕ} {k c : ℕ} {x : Item} {v : List Item} (l : Left F 
       turn_last : {flags : List ℕ} → get_or last j 0 ≡ k → Turn F last flags k c x v c (x ∷ []) flags
       turn_last e =
           let n : has x.page (pages v) ≡ false = split (has x.page (pages v)) (λ a. absurd (omega (arith, rw a at noted))) (λ a. a) in
-          let kk = last-kept Demand (take c F) x v n in
+          let kk = last_kept Demand (take c F) x v n in
           turn (x ∷ []) stays (λ u. rw kk) (λ owed o. rw (kk, add_old x.page (take c F) old) o)
 
       -- Else it is not.
@@ -155,8 +155,8 @@ module _ {F last : List ℕ} {k c : ℕ} {x : Item} {v : List Item} (l : Left F 
     turn_new h g =
         let n : has x.page (take c F) ≡ false = known ∙ le-ltb j c h in
         let kk = first-kept Demand (take c F) x v n in
-        turn (x ∷ []) (omega (arith, length-new x.page (take c F) n, length-take-le c F l.before)) (λ u. rw kk)
-        (λ owed o. rw kk (owes-new o x.page n (length-take-le c F l.before) g))
+        turn (x ∷ []) (omega (arith, length_new x.page (take c F) n, length-take-le c F l.before)) (λ u. rw kk)
+        (λ owed o. rw kk (owes_new o x.page n (length-take-le c F l.before) g))
 
 -- ---- items that are known not to be noted
 
@@ -211,11 +211,11 @@ module _ {file : List ℕ} {from end had done : ℕ} {filter last : List ℕ} {h
     (r : Keeping file from end had done filter last held flags₀ out₀ k c m n skip flags out) where
   -- There is a flag for each place.
   pub keeping_long : Notes file last held filter → held ≤ length flags
-  keeping_long f = omega (arith, notes-long f, r.flags_long)
+  keeping_long f = omega (arith, notes_long f, r.flags_long)
 
   -- No more pages are owed a write than are held.
   pub keeping_owing : Notes file last held filter → n ≤ held
-  keeping_owing f = omega (arith, notes-long f, r.left.before, r.counted, flags-most c flags)
+  keeping_owing f = omega (arith, notes_long f, r.left.before, r.counted, flags_most c flags)
 
   module _ (h : k < end) {x : Item} (e : x ≡ item_at file k) where
     -- What is left is the item that was read, and what is left after it.
@@ -235,11 +235,11 @@ module _ {file : List ℕ} {from end had done : ℕ} {filter last : List ℕ} {h
       left = t.next;
       so_far = r.so_far ++ a;
       wrote = wrote_then r.wrote r.count w;
-      all = rw (append_assoc, ← t.kept-are, ← rest) r.all;
+      all = rw (append_assoc, ← t.kept_are, ← rest) r.all;
       count = omega (arith, length-append r.so_far a);
       few = omega arith;
-      room = rw (wrote-long w) r.room;
-      out_long = wrote-long w ∙ r.out_long;
+      room = rw (wrote_long w) r.room;
+      out_long = wrote_long w ∙ r.out_long;
       flags_long = rw f r.flags_long;
       flags_same = f ∙ r.flags_same;
       owing = λ owed o.
@@ -258,7 +258,7 @@ module _ {file : List ℕ} {from end had done : ℕ} {filter last : List ℕ} {h
     module _ {b : Bool} (q : b ≡ eqb (place x.page filter) c) where
       -- A new page has a place, and so a flag.
       pub keeping_flag : b ≡ true → c < length flags
-      keeping_flag t = omega (arith, same _ c (sym q ∙ t), place-within x.page filter keeping_has, r.flags_long)
+      keeping_flag t = omega (arith, same _ c (sym q ∙ t), place_within x.page filter keeping_has, r.flags_long)
 
       -- The item is the first of its page, and is written. Its page's flag is not set.
       pub keeping_new : b ≡ true → {out' : List ℕ} → out' ≡ sets out (23 + 19 * m) (encode_item x)
@@ -268,7 +268,7 @@ module _ {file : List ℕ} {from end had done : ℕ} {filter last : List ℕ} {h
           let z : set flags c 0 ≡ flags = rw (r.clear c (omega arith)) at (set-get_or flags c 0) in
           let p : Keeping file from end had done filter last held flags₀ out₀ (k + 1) (c + 1) (m + 1) n skip (set flags c 0) out' =
           passed (turn_new here refl (omega (arith, same _ c (sym q ∙ t))) l) (wrote_one w) (omega arith) (omega arith) (length-set flags c 0)
-          (r.counted ∙ sym (flags-new c flags l)) (λ i o. rw z (r.clear i (omega arith))) (record { none = λ i a b. r.skipped.none i (omega arith) b }) in
+          (r.counted ∙ sym (flags_new c flags l)) (λ i o. rw z (r.clear i (omega arith))) (record { none = λ i a b. r.skipped.none i (omega arith) b }) in
           rw z at p
 
       module _ (t : b ≡ false) (f : Notes file last held filter) {skip' : ℕ} (g : FirstNoted (take held last) k skip') where
@@ -281,8 +281,8 @@ module _ {file : List ℕ} {from end had done : ℕ} {filter last : List ℕ} {h
         -- What is noted at the page's place tells whether it is the last.
         told : eqb (get_or last (place x.page filter) 0) k ≡ has k (take held last)
         told =
-            let w : place x.page filter < held = omega (arith, before, here.before, notes-long f) in
-            rw e (notes-told f k (rw e at w))
+            let w : place x.page filter < held = omega (arith, before, here.before, notes_long f) in
+            rw e (notes_told f k (rw e at w))
 
         onward : NoneNoted (take held last) (k + 1) skip'
         onward = record { none = λ i a b. g.none i (omega arith) b }
@@ -316,7 +316,7 @@ module _ {file : List ℕ} {from end had done : ℕ} {filter last : List ℕ} {h
     -- What is kept so far is all.
     whole : r.so_far ≡ kept_there file from end had filter
     unfolding kept
-    whole = sym (append-nil r.so_far) ∙ rw (from-none file h) at r.all
+    whole = sym (append-nil r.so_far) ∙ rw (from_none file h) at r.all
 
     -- As many items are written as are kept.
     pub keeping_count : m ≡ done + length (kept_there file from end had filter)
@@ -324,11 +324,11 @@ module _ {file : List ℕ} {from end had done : ℕ} {filter last : List ℕ} {h
 
     -- They stand behind what was done.
     pub keeping_bytes : out ≡ sets out₀ (23 + 19 * done) (encode_items (kept_there file from end had filter))
-    keeping_bytes = rw whole at r.wrote.bytes-are
+    keeping_bytes = rw whole at r.wrote.bytes_are
 
     passed_all : filter ≡ take c filter
     unfolding touched
-    passed_all = rw (from-none file h) at r.left.filter_is
+    passed_all = rw (from_none file h) at r.left.filter_is
 
     -- The filter is passed, and the flags say what is owed.
     pub keeping_flags : Flags file from end had filter flags₀ flags n
@@ -339,7 +339,7 @@ module _ {file : List ℕ} {from end had done : ℕ} {filter last : List ℕ} {h
       owes = λ owed o.
           let b = r.owing owed o in
           let f = passed_all in
-          let a : b.now_owed ≡ lost Demand (take had filter) owed (items_from file from (end - from)) = rw (from-none file h) at b.then_owed in
+          let a : b.now_owed ≡ lost Demand (take had filter) owed (items_from file from (end - from)) = rw (from_none file h) at b.then_owed in
           let g : Owes filter flags b.now_owed = rw (← f) at b.owes in
           rw (← a) g;
     }

@@ -7,13 +7,13 @@ use native.Mathlib.Omega.{arith}
 use lib.ListN.{length, get_or, set, length-set}
 use lib.Seq.{append_snoc}
 use Rattle.pages.specs.Pages.{has, add, place}
-use Rattle.pages.proofs.Added.{add_old, length-new}
-use Rattle.pages.proofs.Table.{has_within, has_beyond, place-most, get_d_place}
+use Rattle.pages.proofs.Added.{add_old, length_new}
+use Rattle.pages.proofs.Table.{has_within, has_beyond, place_most, get_d_place}
 use Rattle.trace.specs.Layout.{item_at, items_from}
 use Rattle.trace.specs.declared.Item.{Item}
-use Rattle.trace.proofs.Items.{length_from, from_turn, from-none, from_more}
+use Rattle.trace.proofs.Items.{length_from, from_turn, from_none, from_more}
 use Rattle.filter.specs.Filter.{pages_in, Holds, IsFilter, CanAdd}
-use Rattle.filter.proofs.Noting.{notes-long}
+use Rattle.filter.proofs.Noting.{notes_long}
 use Rattle.filter.proofs.Filling.{holds_in, holds_again}
 use Rattle.epochs.specs.Epochs.{pages, touched, cut}
 use Rattle.epochs.proofs.Greedy.{touched-append, has-touched, cut_goes, cut-begins}
@@ -26,9 +26,9 @@ pub record Looking (file : List ℕ) (n from most held base : ℕ) (last₀ head
   pub begins : from ≤ k
   pub ends : k ≤ n
   pub holds : c ≤ most
-  pub last-long : length last ≡ length last₀
+  pub last_long : length last ≡ length last₀
   pub heads_long : length heads ≡ length heads₀
-  pub next-long : length next ≡ length next₀
+  pub next_long : length next ≡ length next₀
   pub filter : Holds file last c base heads next (touched (pages_in file last₀ held) (items_from file from (k - from)))
   pub stretch_is : (cut most (pages_in file last₀ held) (items_from file from (n - from))).here
       ≡ items_from file from (k - from) ++ (cut most (touched (pages_in file last₀ held) (items_from file from (k - from))) (items_from file k (n - k))).here
@@ -39,15 +39,15 @@ pub looking_none : (file : List ℕ) (n from most held : ℕ) (last : List ℕ) 
     → Looking file n from most held base last heads next last heads next from held
 unfolding has pages touched
 looking_none file n from most held last base heads next can =
-    let e : items_from file from (from - from) ≡ [] = from-none file (omega arith) in
+    let e : items_from file from (from - from) ≡ [] = from_none file (omega arith) in
     record {
       can = can;
       begins = omega arith;
       ends = can.within;
       holds = can.holds;
-      last-long = refl;
+      last_long = refl;
       heads_long = refl;
-      next-long = refl;
+      next_long = refl;
       filter = rw e can.filter;
       stretch_is = rw e;
       last_noted = rw e (λ p h. absurd (false≢true h));
@@ -66,7 +66,7 @@ module _ {file : List ℕ} {n from most held base : ℕ} {last₀ heads₀ next�
   -- All items are passed.
   pub looking_all : n ≤ k → Looked file n from most (pages_in file last₀ held) (record { end = k; held = c }) last base heads next
   unfolding cut
-  looking_all h = stop (rw (from-none file h))
+  looking_all h = stop (rw (from_none file h))
 
   -- A page may be looked for.
   pub looking_filter : IsFilter file last c base heads next
@@ -74,11 +74,11 @@ module _ {file : List ℕ} {n from most held base : ℕ} {last₀ heads₀ next�
 
   filled : length F ≡ c
   unfolding F
-  filled = notes-long r.filter.notes
+  filled = notes_long r.filter.notes
 
   -- The places are those that the filter had.
   room : most ≤ length last
-  room = rw r.last-long r.can.room
+  room = rw r.last_long r.can.room
 
   -- An item more is passed, whose page is added to the filter, and whose number is noted at the page's place.
   more : {heads' next' : List ℕ} (c' j : ℕ) → length heads' ≡ length heads → length next' ≡ length next → k < n
@@ -90,16 +90,16 @@ module _ {file : List ℕ} {n from most held base : ℕ} {last₀ heads₀ next�
       let u = items_from file from (k - from) in
       let m = from_more file r.begins in
       let t : touched (pages_in file last₀ held) (items_from file from (k + 1 - from)) ≡ add x.page F = rw (m, touched-append) in
-      let a : length (add x.page F) ≤ most = rw (notes-long y.notes) g in
+      let a : length (add x.page F) ≤ most = rw (notes_long y.notes) g in
       let among : (q : ℕ) → has q (pages u) ≡ true → has q F ≡ true = λ q b. rw (has-touched, b) (or-true (has q (pages_in file last₀ held))) in
       record {
         can = r.can;
         begins = omega arith;
         ends = omega arith;
         holds = g;
-        last-long = length-set last j k ∙ r.last-long;
+        last_long = length-set last j k ∙ r.last_long;
         heads_long = hl ∙ r.heads_long;
-        next-long = nl ∙ r.next-long;
+        next_long = nl ∙ r.next_long;
         filter = rw t y;
         stretch_is = r.stretch_is ∙ rw (from_turn file h, cut_goes most F x (items_from file (k + 1) (n - (k + 1))) a, t, m) (sym (append_snoc u x _));
         last_noted = rw (t, m, f) (noted_more from k u x F last among (omega arith) (omega (arith, length_from file from (k - from))) r.last_noted);
@@ -108,10 +108,10 @@ module _ {file : List ℕ} {n from most held base : ℕ} {last₀ heads₀ next�
   module _ {x : Item} {j : ℕ} (h : k < n) (e : x ≡ item_at file k) (f : j ≡ place x.page (pages_in file last c)) where
     found : j ≡ place (item_at file k).page F
     unfolding F
-    found = rw (e, r.filter.notes.pages-are) at f
+    found = rw (e, r.filter.notes.pages_are) at f
 
     readable : 23 + 19 * (k + 1) ≤ length file
-    readable = omega (arith, r.can.file-long)
+    readable = omega (arith, r.can.file_long)
 
     -- An item is passed whose page is in the filter.
     pub looking_old : j < c → Looking file n from most held base last₀ heads₀ next₀ (set last j k) heads next (k + 1) c
@@ -133,7 +133,7 @@ module _ {file : List ℕ} {n from most held base : ℕ} {last₀ heads₀ next�
         room = omega (arith, room);
         readable = readable;
         few = omega (arith, r.can.few);
-        new = rw r.filter.notes.pages-are new;
+        new = rw r.filter.notes.pages_are new;
       }
 
       -- It is passed.
@@ -142,9 +142,9 @@ module _ {file : List ℕ} {n from most held base : ℕ} {last₀ heads₀ next�
           → length next' ≡ length next → Looking file n from most held base last₀ heads₀ next₀ last' heads' next' (k + 1) (c + 1)
       unfolding F
       looking_new o a b hl nl =
-          let i : c ≡ place (item_at file k).page F = omega (arith, filled, found, place-most (item_at file k).page F) in
-          rw a (more (c + 1) c hl nl h (rw (a, r.filter.notes.pages-are) at b) (omega arith) (omega (arith, room)) i)
+          let i : c ≡ place (item_at file k).page F = omega (arith, filled, found, place_most (item_at file k).page F) in
+          rw a (more (c + 1) c hl nl h (rw (a, r.filter.notes.pages_are) at b) (omega arith) (omega (arith, room)) i)
 
       -- An item is not passed whose page is not in the filter, which is full.
       pub looking_full : most ≤ c → Looked file n from most (pages_in file last₀ held) (record { end = k; held = c }) last base heads next
-      looking_full o = stop (rw (from_turn file h, cut-begins most F (item_at file k) _ (omega (arith, filled, length-new _ _ new))))
+      looking_full o = stop (rw (from_turn file h, cut-begins most F (item_at file k) _ (omega (arith, filled, length_new _ _ new))))

@@ -12,7 +12,7 @@ use borrow.Author.Tests.{eq-eqb, ne_eqb, eqb-false, ltb-true, ltb-false}
 use Rattle.pages.specs.Pages.{has, place}
 use Rattle.pages.proofs.Choice.{split, same, eqb_self}
 use Rattle.pages.proofs.Added.{has_join}
-use Rattle.pages.proofs.Table.{place-within, place_same}
+use Rattle.pages.proofs.Table.{place_within, place_same}
 use Rattle.trace.specs.Layout.{item_at, encode_item, encode_items}
 use Rattle.trace.specs.declared.Item.{Item}
 use Rattle.trace.proofs.Output.{wrote-item, wrote_again}
@@ -21,7 +21,7 @@ use Rattle.epochs.specs.Epochs.{pages}
 use Rattle.epochs.specs.Keep.{is_last, settle, settled}
 use Rattle.epochs.proofs.Marks.{pages_join, settled_front}
 use Rattle.slim.specs.Passes.{flags_set, CanMend, Fit, Stand, Mended}
-use Rattle.slim.proofs.Flags.{flags-none, flags_less}
+use Rattle.slim.proofs.Flags.{flags_none, flags_less}
 
 -- ---- a row of items, from its end
 
@@ -42,9 +42,9 @@ unfolding settled
 length-settled owed [] = refl
 length-settled owed (i ∷ u) = ap suc (length-settled owed u)
 
-fit-behind : (a b : List Item) → Fit (a ++ b) → Fit b
-fit-behind [] b f = f
-fit-behind (i ∷ a) b f = fit-behind a b f.2
+fit_behind : (a b : List Item) → Fit (a ++ b) → Fit b
+fit_behind [] b f = f
+fit_behind (i ∷ a) b f = fit_behind a b f.2
 
 -- ---- the loop: from item k on the items are settled
 
@@ -70,10 +70,10 @@ pub record Mending (filter flags₀ : List ℕ) (held from to : ℕ) (out₀ fla
   pub settling : (old : List ℕ) (u : List Item) (owed : List ℕ) → Stand filter flags₀ from to out₀ old u owed → Settling filter flags out from k old u owed
 
 -- Where none of the first flags is set, and none behind them, none is.
-none-set : (held : ℕ) (flags : List ℕ) → flags_set held flags ≡ 0 → Clear held flags → ((j : ℕ) → get_or flags j 0 ≤ 1) → Clear 0 flags
-none-set held flags z clear bits j o =
+none_set : (held : ℕ) (flags : List ℕ) → flags_set held flags ≡ 0 → Clear held flags → ((j : ℕ) → get_or flags j 0 ≤ 1) → Clear 0 flags
+none_set held flags z clear bits j o =
     split (ltb j held)
-    (λ t. let n = flags-none held flags z j (ltb-true j held t) in let b = bits j in omega arith)
+    (λ t. let n = flags_none held flags z j (ltb-true j held t) in let b = bits j in omega arith)
     (λ t. clear j (ltb-false j held t))
 
 -- Nothing is settled yet.
@@ -115,13 +115,13 @@ module _ {filter flags₀ : List ℕ} {held from to : ℕ} {out₀ flags out : L
         let joined : has p (pages (b.before ++ b.back)) ≡ true =
         rw (pages_join b.before b.back, has_join p (pages b.before) (pages b.back), h) in
         let known = s.known p (rw (← b.are) at joined) in
-        sym (b.flagged p known) ∙ ne_eqb _ 1 (flags-none held flags none (place p filter) (omega (arith, place-within p filter known, r.long)))) in
+        sym (b.flagged p known) ∙ ne_eqb _ 1 (flags_none held flags none (place p filter) (omega (arith, place_within p filter known, r.long)))) in
         b.wrote ∙ ap (λ (t : List Item). sets old (23 + 19 * from) (encode_items t)) (sym front ∙ ap (settled owed) (sym b.are));
   }
 
   -- Then none at all is.
   pub mending_clear : left ≡ 0 → ((j : ℕ) → get_or flags j 0 ≤ 1) → Clear 0 flags
-  mending_clear z bits = none-set held flags (sym r.left_is ∙ z) r.clear bits
+  mending_clear z bits = none_set held flags (sym r.left_is ∙ z) r.clear bits
 
   -- All is settled.
   pub mending_all : k ≤ from → Mended filter flags₀ from to out₀ out
@@ -182,7 +182,7 @@ module _ {filter flags₀ : List ℕ} {held from to : ℕ} {out₀ flags out : L
         let ls = length-settled owed w in
         let lo : length out ≡ length old = ap length bytes ∙ length-sets old (23 + 19 * from) (encode_items (v ++ (y ∷ ws))) in
         let long : 23 + 19 * (from + (length v + suc (length ws))) ≤ length old = omega (arith, s.count, r.room) in
-        let fit = fit-behind v (y ∷ w) (rw are at s.fit) in
+        let fit = fit_behind v (y ∷ w) (rw are at s.fit) in
         let at : k - 1 ≡ from + length v = omega (arith, b.at) in
         let back : item_at out (k - 1) ≡ y = rw at (wrote-item from v ws old long y fit.0 fit.1 bytes) in
         let q : x ≡ y = e ∙ back in
@@ -254,7 +254,7 @@ module _ {filter flags₀ : List ℕ} {held from to : ℕ} {out₀ flags out : L
     unfolding has pages is_last settle settled
     mending_leave o =
         go flags out refl refl r.left_is r.clear (λ old u owed t.
-        let n : eqb (get_or flags (place x.page filter) 0) 1 ≡ false = ne_eqb _ 1 (missed o (place-within x.page filter t.known)) in
+        let n : eqb (get_or flags (place x.page filter) 0) 1 ≡ false = ne_eqb _ 1 (missed o (place_within x.page filter t.known)) in
         let v : not (has x.page (pages t.back)) && has x.page owed ≡ false = sym (own old u owed t) ∙ n in
         let at : k - 1 ≡ from + length t.front = omega (arith, t.at) in
         let stays : x.written || (not (has x.page (pages t.back)) && has x.page owed) ≡ x.written = rw (v, or-false) in
@@ -276,4 +276,4 @@ pub mending_quiet : (filter flags : List ℕ) (from to held owing : ℕ) (out : 
 mending_quiet filter flags from to held owing out l can z = mending_stop (mending_none filter flags from to held owing out l can) z
 
 pub quiet_clear : {from to held owing : ℕ} {out flags : List ℕ} → CanMend from to held owing out flags → owing ≡ 0 → ((j : ℕ) → get_or flags j 0 ≤ 1) → Clear 0 flags
-quiet_clear {held = held} {flags = flags} can z bits = none-set held flags (sym can.owing_is ∙ z) can.clear bits
+quiet_clear {held = held} {flags = flags} can z bits = none_set held flags (sym can.owing_is ∙ z) can.clear bits

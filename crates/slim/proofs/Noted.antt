@@ -23,10 +23,10 @@ module _ (x : Item) where
   has_more p (i ∷ u) = rw (has_more p u) (sym (or_assoc (eqb p i.page) (has p (pages u)) (eqb p x.page)))
 
   -- The item more is the last of its page.
-  pub last_place-here : (u : List Item) → last_place x.page (u ++ (x ∷ [])) ≡ length u
+  pub last_place_here : (u : List Item) → last_place x.page (u ++ (x ∷ [])) ≡ length u
   unfolding has pages last_place
-  last_place-here [] = refl
-  last_place-here (i ∷ u) = rw (has_more x.page u, eqb_self x.page, or-true) (ap suc (last_place-here u))
+  last_place_here [] = refl
+  last_place_here (i ∷ u) = rw (has_more x.page u, eqb_self x.page, or-true) (ap suc (last_place_here u))
 
   -- Of another page the last item stays.
   pub last_place_other : (p : ℕ) (u : List Item) → eqb p x.page ≡ false → last_place p (u ++ (x ∷ [])) ≡ last_place p u
@@ -40,7 +40,7 @@ pub noted_more : (from k : ℕ) (u : List Item) (x : Item) (filter last : List �
     → Noted from (u ++ (x ∷ [])) (add x.page filter) (set last (place x.page filter) k)
 noted_more from k u x filter last among l e n q h =
     split (eqb q x.page)
-    (λ f. rw (same q x.page f, place_added x.page filter, get_or-set_same last (place x.page filter) k 0 l, last_place-here x u) e)
+    (λ f. rw (same q x.page f, place_added x.page filter, get_or-set_same last (place x.page filter) k 0 l, last_place_here x u) e)
     (λ f. let g : has q (pages u) ≡ true = rw (has_more x q u, f, or-false) at h in
     let d : place q filter ≢ place x.page filter = λ z. eqb-false q x.page f (place_same x.page q filter (among q g) z) in
     rw (place-add q x.page filter (among q g), get_or-set_other last (place x.page filter) (place q filter) k 0 d, last_place_other x q u f) (n q g))

@@ -26,12 +26,12 @@ use Rattle.trace.proofs.Allowed.{le_between}
 use Rattle.trace.proofs.Sound.{first_passed, passed_first, then_both, both_then, elim_then}
 use Rattle.trace.proofs.Checking.{sound_file}
 use Rattle.trace.proofs.Tests.{holds}
-use Rattle.trace.proofs.Items.{items-from, length_from}
-use Rattle.trace.proofs.Output.{Wrote, wrote-file}
+use Rattle.trace.proofs.Items.{items_from_lem, length_from}
+use Rattle.trace.proofs.Output.{Wrote, wrote_file}
 use Rattle.chains.proofs.Chained.{low_zeros}
 use Rattle.filter.specs.Filter.{buckets, flags_of}
-use Rattle.filter.proofs.Filling.{holds-none}
-use Rattle.filter.proofs.Bits.{flags-length, zeros_clear}
+use Rattle.filter.proofs.Filling.{holds_none}
+use Rattle.filter.proofs.Bits.{flags_length, zeros_clear}
 use Rattle.epochs.specs.Keep.{reduce}
 use Rattle.epochs.specs.declared.Mode.{Mode}
 use Rattle.epochs.proofs.Order.{reduce-length}
@@ -84,7 +84,7 @@ reducible_sound f mode size room a =
 module _ (f : List ℕ) (mode size : ℕ) {h : Header} (q : h ≡ header f) {m : Mode} (d : m ≡ mode_of mode) where
   kept_is : reduce m size (items_from f 0 h.items) ≡ kept_of f mode size
   unfolding kept_of
-  kept_is = rw (d, q, items-from f)
+  kept_is = rw (d, q, items_from_lem f)
 
   -- The header is as it should be.
   pub reducing_header : {n : ℕ} → n ≡ length (reduce m size (items_from f 0 h.items))
@@ -117,13 +117,13 @@ module _ (f : List ℕ) (mode size : ℕ) (out : List ℕ) (v : reduce_verdict f
     reducing_slim c b =
         let a = able in
         record {
-          file-long = omega (arith, long_is);
+          file_long = omega (arith, long_is);
           count = c;
           some = a.least;
           few = a.most;
-          filter = holds-none f (replicate filter_most 0) (low_zeros buckets) (omega arith) (omega arith) (omega arith);
+          filter = holds_none f (replicate filter_most 0) (low_zeros buckets) (omega arith) (omega arith) (omega arith);
           room = a.most;
-          flags = omega (arith, a.most, flags-length (replicate 512 0), length-replicate {A = ℕ} 512 0);
+          flags = omega (arith, a.most, flags_length (replicate 512 0), length-replicate {A = ℕ} 512 0);
           clear = zeros_clear 512;
           octets = b;
           fits = omega (arith, long_is);
@@ -137,9 +137,9 @@ module _ (f : List ℕ) (mode size : ℕ) (out : List ℕ) (v : reduce_verdict f
     reducing_file {m} d {n} c o p =
         let t = reduce m size (items_from f 0 h.items) in
         let a = able in
-        let w : Wrote 0 t out _ = record { bytes-are = o } in
+        let w : Wrote 0 t out _ = record { bytes_are = o } in
         let room : 23 + 19 * length t ≤ length out = omega (arith, long_is, reduce-length m size (items_from f 0 h.items), length_from f 0 h.items) in
-        wrote-file (record { kind = mode; filter = size; references = h.references; items = n }) w room p
+        wrote_file (record { kind = mode; filter = size; references = h.references; items = n }) w room p
         ∙ rw (reducing_header f mode size q d c, kept_is f mode size q d)
 
 -- ---- the answer
@@ -165,6 +165,6 @@ module _ (f : List ℕ) (mode size : ℕ) (out : List ℕ) {v : Verdict} (e : v 
     unfolding reduce_answer
     reduce-written q = rw (← e, s, q, reduce_answer)
 
-    pub reduce-file : {new : List ℕ} → new ≡ over (reduced_file f mode size) out → new ≡ reduce_out f mode size out
+    pub reduce_file : {new : List ℕ} → new ≡ over (reduced_file f mode size) out → new ≡ reduce_out f mode size out
     unfolding reduce_out
-    reduce-file q = rw (← e, s, q, reduce_out)
+    reduce_file q = rw (← e, s, q, reduce_out)

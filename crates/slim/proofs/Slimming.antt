@@ -14,52 +14,52 @@ use Rattle.pages.specs.Pages.{has, add}
 use Rattle.pages.proofs.Choice.{split, same, or_false as or_neither}
 use Rattle.pages.proofs.Added.{has_join}
 use Rattle.filter.specs.Filter.{pages_of, pages_in, Holds, IsFilter, Clear}
-use Rattle.filter.proofs.Noting.{notes-long}
+use Rattle.filter.proofs.Noting.{notes_long}
 use Rattle.filter.proofs.Filling.{holds_in}
 use Rattle.trace.specs.Layout.{item, item_at, items_of, items_from, encode_items}
 use Rattle.trace.specs.Promises.{AreBytes}
 use Rattle.trace.specs.declared.Item.{Item}
 use Rattle.trace.proofs.Bytes.{number_at_lt, drop-bytes}
-use Rattle.trace.proofs.Items.{length_from, from_turn, from-none, from_split}
-use Rattle.trace.proofs.Output.{Wrote, wrote_none, wrote_then, wrote-long}
+use Rattle.trace.proofs.Items.{length_from, from_turn, from_none, from_split}
+use Rattle.trace.proofs.Output.{Wrote, wrote_none, wrote_then, wrote_long}
 use Rattle.epochs.specs.Epochs.{pages, touched, cut}
 use Rattle.epochs.specs.Keep.{keeps, kept, reduce, lost, settled}
 use Rattle.epochs.specs.declared.Mode.{Mode}
 use Rattle.epochs.specs.declared.Mode.TheVariants.{FastSlim, Demand}
-use Rattle.epochs.proofs.Greedy.{cut-flat, has-touched}
+use Rattle.epochs.proofs.Greedy.{cut_flat, has-touched}
 use Rattle.epochs.proofs.Through.{Next}
 use Rattle.epochs.proofs.Kept.{kept_sub}
 use Rattle.epochs.proofs.Order.{sub_length}
 use Rattle.epochs.proofs.Marks.{pages_join, kept-pages}
 use Rattle.slim.specs.Passes.{limit, CanLook, Looked, Within, CanKeep, kept_there, flags_set, Owes, Flags, CanMend, Fit, Stand, Mended, CanSlim}
 use Rattle.slim.specs.declared.Reach.{Reach}
-use Rattle.slim.proofs.Stretch.{reduce_from, reduce-start, Ready, ready-start, stretch, beyond, emptied, emptied_full, emptied_else}
-use Rattle.slim.proofs.Stretch.{reduce-over, reduce-full, stretch_some, stretch_next, stretch_ready, stretch_kept}
-use Rattle.slim.proofs.Flags.{owes-none}
+use Rattle.slim.proofs.Stretch.{reduce_from, reduce_start, Ready, ready_start, stretch, beyond, emptied, emptied_full, emptied_else}
+use Rattle.slim.proofs.Stretch.{reduce_over, reduce_full, stretch_some, stretch_next, stretch_ready, stretch_kept}
+use Rattle.slim.proofs.Flags.{owes_none}
 use Rattle.slim.proofs.Mending.{length-settled}
-use Rattle.slim.proofs.Keeping.{filter_grows, filter-begins}
+use Rattle.slim.proofs.Keeping.{filter_grows, filter_begins}
 
 -- ---- the items of a file fit
 
-items-fit : (n : ℕ) (s : List ℕ) → AreBytes s → Fit (items_of n s)
+items_fit : (n : ℕ) (s : List ℕ) → AreBytes s → Fit (items_of n s)
 unfolding items_of item
-items-fit zero s b = tt
-items-fit (suc n) s b = (number_at_lt 8 s 3 b, number_at_lt 8 s 11 b, items-fit n (drop 19 s) (drop-bytes 19 s b))
+items_fit zero s b = tt
+items_fit (suc n) s b = (number_at_lt 8 s 3 b, number_at_lt 8 s 11 b, items_fit n (drop 19 s) (drop-bytes 19 s b))
 
-from-fit : (f : List ℕ) (i n : ℕ) → AreBytes f → Fit (items_from f i n)
+from_fit : (f : List ℕ) (i n : ℕ) → AreBytes f → Fit (items_from f i n)
 unfolding items_from
-from-fit f i n b = items-fit n (drop (23 + 19 * i) f) (drop-bytes (23 + 19 * i) f b)
+from_fit f i n b = items_fit n (drop (23 + 19 * i) f) (drop-bytes (23 + 19 * i) f b)
 
-kept-fit : (m : Mode) (seen : List ℕ) (e : List Item) → Fit e → Fit (kept m seen e)
+kept_fit : (m : Mode) (seen : List ℕ) (e : List Item) → Fit e → Fit (kept m seen e)
 unfolding kept
-kept-fit m seen [] f = tt
-kept-fit m seen (i ∷ e) f =
-    let r = kept-fit m (add i.page seen) e f.2 in
+kept_fit m seen [] f = tt
+kept_fit m seen (i ∷ e) f =
+    let r = kept_fit m (add i.page seen) e f.2 in
     split (keeps m seen i e) (λ k. rw k (f.0, f.1, r)) (λ k. rw k r)
 
-append-fit : (a b : List Item) → Fit a → Fit b → Fit (a ++ b)
-append-fit [] b f g = g
-append-fit (i ∷ a) b f g = (f.0, f.1, append-fit a b f.2 g)
+append_fit : (a b : List Item) → Fit a → Fit b → Fit (a ++ b)
+append_fit [] b f g = g
+append_fit (i ∷ a) b f g = (f.0, f.1, append_fit a b f.2 g)
 
 -- Before the stretch that begins at item i: the filter holds `held` pages, and m items are kept and written. Those before item `past` are of the epochs
 -- before, and are settled; the others, `here`, are of this one, of whose pages those `owing` are owed a write.
@@ -68,10 +68,10 @@ pub record Slimming (file : List ℕ) (n : ℕ) (mode : Mode) (size : ℕ) (last
   pub can : CanSlim file n size last₀ heads₀ next₀ owed₀ out₀
   pub within : i ≤ n
   pub holds : held ≤ size
-  pub last-long : length last ≡ length last₀
+  pub last_long : length last ≡ length last₀
   pub heads_long : length heads ≡ length heads₀
-  pub next-long : length next ≡ length next₀
-  pub owed-long : length owed ≡ length owed₀
+  pub next_long : length next ≡ length next₀
+  pub owed_long : length owed ≡ length owed₀
   pub out_long : length out ≡ length out₀
   pub filter : IsFilter file last held base heads next
   pub ready : Ready mode size (pages_in file last held) (items_from file i (n - i))
@@ -80,7 +80,7 @@ pub record Slimming (file : List ℕ) (n : ℕ) (mode : Mode) (size : ℕ) (last
   pub owing : List ℕ
   pub mid : List ℕ
   pub wrote_done : Wrote 0 done out₀ mid
-  pub wrote-here : Wrote past here mid out
+  pub wrote_here : Wrote past here mid out
   pub past_is : past ≡ length done
   pub count : m ≡ past + length here
   pub few : m ≤ i
@@ -100,62 +100,62 @@ slimming_none file n mode size last heads next owed out c = record {
   can = c;
   within = omega arith;
   holds = omega arith;
-  last-long = refl;
+  last_long = refl;
   heads_long = refl;
-  next-long = refl;
-  owed-long = refl;
+  next_long = refl;
+  owed_long = refl;
   out_long = refl;
   filter = c.filter;
-  ready = ready-start mode size c.some (items_from file 0 (n - 0));
+  ready = ready_start mode size c.some (items_from file 0 (n - 0));
   done = [];
   here = [];
   owing = [];
   mid = out;
   wrote_done = wrote_none 0 out;
-  wrote-here = wrote_none 0 out;
+  wrote_here = wrote_none 0 out;
   past_is = refl;
   count = omega arith;
   few = omega arith;
   fit = tt;
   known = λ p h. absurd (false≢true h);
-  owes = owes-none owed;
+  owes = owes_none owed;
   left_is = refl;
   clear = c.clear;
   over = λ h. refl;
-  all = rw (sub-zero, reduce-start mode size (items_from file 0 n));
+  all = rw (sub-zero, reduce_start mode size (items_from file 0 n));
 }
 
 -- ---- a stretch
 
 -- What a stretch may leave in the filter is no more than its size.
-limit-within : (m : Mode) (B held : ℕ) (seen : List ℕ) (i : Item) (t : List Item) → length seen ≡ held → held ≤ B → Ready m B seen (i ∷ t)
+limit_within : (m : Mode) (B held : ℕ) (seen : List ℕ) (i : Item) (t : List Item) → length seen ≡ held → held ≤ B → Ready m B seen (i ∷ t)
     → (held ≤ limit m B held) × (limit m B held ≤ B)
 unfolding limit
-limit-within Demand B held seen i t e h r = (h, omega arith)
-limit-within FastSlim B held seen i t e h r = (omega arith, omega arith)
+limit_within Demand B held seen i t e h r = (h, omega arith)
+limit_within FastSlim B held seen i t e h r = (omega arith, omega arith)
 
 module _ {file : List ℕ} {n : ℕ} {mode : Mode} {size : ℕ} {last₀ heads₀ next₀ owed₀ out₀ last heads next owed out : List ℕ} {i held base past m left : ℕ}
     (s : Slimming file n mode size last₀ heads₀ next₀ owed₀ out₀ last heads next owed out i held base past m left) (l : i < n) where
   seen_long : length (pages_in file last held) ≡ held
-  seen_long = notes-long s.filter.notes
+  seen_long = notes_long s.filter.notes
 
   left_is : items_from file i (n - i) ≡ item_at file i ∷ items_from file (i + 1) (n - (i + 1))
   left_is = from_turn file l
 
   module _ {most : ℕ} (q : most ≡ limit mode size held) where
     bounds : (held ≤ most) × (most ≤ size)
-    bounds = rw q (limit-within mode size held (pages_in file last held) (item_at file i) (items_from file (i + 1) (n - (i + 1))) seen_long s.holds (rw left_is at s.ready))
+    bounds = rw q (limit_within mode size held (pages_in file last held) (item_at file i) (items_from file (i + 1) (n - (i + 1))) seen_long s.holds (rw left_is at s.ready))
 
     -- The first pass may begin.
     pub slimming_look : CanLook file n i most held last base heads next
     slimming_look =
         let b = bounds in
         record {
-          file-long = s.can.file-long;
+          file_long = s.can.file_long;
           few = s.can.count;
           within = s.within;
           holds = b.0;
-          room = omega (arith, s.last-long, s.can.room);
+          room = omega (arith, s.last_long, s.can.room);
           filter = s.filter;
         }
 
@@ -163,14 +163,14 @@ module _ {file : List ℕ} {n : ℕ} {mode : Mode} {size : ℕ} {last₀ heads�
         (ll : length last' ≡ length last) (hl : length heads' ≡ length heads) (nl : length next' ≡ length next) where
       -- The filter after the stretch holds the pages seen and the stretch's.
       filter_is : pages_in file last' r.held ≡ touched (pages_in file last held) (items_from file i (r.end - i))
-      filter_is = k.filter.notes.pages-are
+      filter_is = k.filter.notes.pages_are
 
       -- The second pass may follow: it has the filter,
       pub slimming_filter : IsFilter file last' r.held base heads' next'
       slimming_filter = holds_in k.filter
 
-      held-long : length (pages_in file last' r.held) ≡ r.held
-      held-long = notes-long slimming_filter.notes
+      held_long : length (pages_in file last' r.held) ≡ r.held
+      held_long = notes_long slimming_filter.notes
 
       -- and what it notes.
       pub slimming_keep : CanKeep file i r.end held m left (pages_in file last' r.held) last' owed out
@@ -179,12 +179,12 @@ module _ {file : List ℕ} {n : ℕ} {mode : Mode} {size : ℕ} {last₀ heads�
           let t = items_from file i (r.end - i) in
           let b = bounds in
           record {
-            file-long = omega (arith, s.can.file-long);
+            file_long = omega (arith, s.can.file_long);
             within = w.begins;
             before = omega (arith, filter_grows F (pages_in file last held) t filter_is, seen_long);
-            filter_is = rw (← seen_long, filter-begins F (pages_in file last held) t filter_is) filter_is;
-            notes = omega (arith, held-long, k.filter.notes.within);
-            flags_long = omega (arith, held-long, s.owed-long, s.can.flags);
+            filter_is = rw (← seen_long, filter_begins F (pages_in file last held) t filter_is) filter_is;
+            notes = omega (arith, held_long, k.filter.notes.within);
+            flags_long = omega (arith, held_long, s.owed_long, s.can.flags);
             clear = s.clear;
             owing_is = s.left_is;
             last_noted = rw filter_is k.last_noted;
@@ -202,7 +202,7 @@ module _ {file : List ℕ} {n : ℕ} {mode : Mode} {size : ℕ} {last₀ heads�
           let c = cut most (pages_in file last held) (items_from file i (n - i)) in
           ap (λ (L : ℕ). flat (cut L (pages_in file last held) (items_from file i (n - i))).later) limit_is
           ∙ sym (drop-append_seam c.here (flat c.later))
-          ∙ ap (drop (length c.here)) (cut-flat most (pages_in file last held) (items_from file i (n - i)) ∙ from_split file w.begins w.ends)
+          ∙ ap (drop (length c.here)) (cut_flat most (pages_in file last held) (items_from file i (n - i)) ∙ from_split file w.begins w.ends)
           ∙ ap (λ (u : List Item). drop (length u) (items_from file i (r.end - i) ++ items_from file r.end (n - r.end))) k.stretch_is
           ∙ drop-append_seam (items_from file i (r.end - i)) (items_from file r.end (n - r.end))
 
@@ -221,7 +221,7 @@ module _ {file : List ℕ} {n : ℕ} {mode : Mode} {size : ℕ} {last₀ heads�
         begins : take held (pages_in file last' r.held) ≡ pages_in file last held
         begins =
             let F = pages_in file last' r.held in
-            ap (λ (h : ℕ). take h F) (sym seen_long) ∙ filter-begins F (pages_in file last held) (items_from file i (r.end - i)) filter_is
+            ap (λ (h : ℕ). take h F) (sym seen_long) ∙ filter_begins F (pages_in file last held) (items_from file i (r.end - i)) filter_is
 
         kept_is : kept_there file i r.end held (pages_in file last' r.held) ≡ kept Demand (pages_in file last held) (items_from file i (r.end - i))
         kept_is = rw begins
@@ -236,7 +236,7 @@ module _ {file : List ℕ} {n : ℕ} {mode : Mode} {size : ℕ} {last₀ heads�
 
         now_wrote : Wrote past now_here s.mid out'
         unfolding now_here
-        now_wrote = wrote_then s.wrote-here s.count (record { bytes-are = rw (← kept_is) o })
+        now_wrote = wrote_then s.wrote_here s.count (record { bytes_are = rw (← kept_is) o })
 
         now_count : m' ≡ past + length now_here
         unfolding now_here
@@ -250,8 +250,8 @@ module _ {file : List ℕ} {n : ℕ} {mode : Mode} {size : ℕ} {last₀ heads�
         now_fit : Fit now_here
         unfolding now_here
         now_fit =
-            append-fit s.here _ s.fit
-            (kept-fit Demand (pages_in file last held) (items_from file i (r.end - i)) (from-fit file i (r.end - i) s.can.octets))
+            append_fit s.here _ s.fit
+            (kept_fit Demand (pages_in file last held) (items_from file i (r.end - i)) (from_fit file i (r.end - i) s.can.octets))
 
         now_known : (p : ℕ) → has p (pages now_here) ≡ true → has p (pages_in file last' r.held) ≡ true
         unfolding now_here
@@ -279,21 +279,21 @@ module _ {file : List ℕ} {n : ℕ} {mode : Mode} {size : ℕ} {last₀ heads�
 
         -- Its items stand in the output as the kept ones, and may be mended.
         now_stand : Stand (pages_in file last' r.held) owed' past m' out' s.mid now_here now_owing
-        now_stand = record { wrote = now_wrote.bytes-are; count = now_count; fit = now_fit; known = now_known; owes = now_owes }
+        now_stand = record { wrote = now_wrote.bytes_are; count = now_count; fit = now_fit; known = now_known; owes = now_owes }
 
         now_left : left' ≡ flags_set r.held owed'
-        now_left = rw held-long at g.count
+        now_left = rw held_long at g.count
 
         now_clear : Clear r.held owed'
-        now_clear = rw held-long at g.clear
+        now_clear = rw held_long at g.clear
 
         pub slimming_mend : CanMend past m' r.held left' out' owed'
         slimming_mend =
             let b = bounds in
             record {
               within = omega (arith, now_count);
-              room = omega (arith, now_few, s.can.fits, wrote-long now_wrote, wrote-long s.wrote_done, w.ends);
-              flags_long = omega (arith, s.owed-long, s.can.flags);
+              room = omega (arith, now_few, s.can.fits, wrote_long now_wrote, wrote_long s.wrote_done, w.ends);
+              flags_long = omega (arith, s.owed_long, s.can.flags);
               owing_is = now_left;
               clear = now_clear;
             }
@@ -312,13 +312,13 @@ module _ {file : List ℕ} {n : ℕ} {mode : Mode} {size : ℕ} {last₀ heads�
             let F = pages_in file last' r.held in
             split (eqb r.held size)
             (λ e. let f = same r.held size e in (
-              rw (← emptied_full size F (held-long ∙ f)) now_ready,
-              reduce-full size F mode s.can.some (limit mode size (length (pages_in file last held))) now_owing now_here
-                  (items_from file r.end (n - r.end)) (held-long ∙ f) now_next,
+              rw (← emptied_full size F (held_long ∙ f)) now_ready,
+              reduce_full size F mode s.can.some (limit mode size (length (pages_in file last held))) now_owing now_here
+                  (items_from file r.end (n - r.end)) (held_long ∙ f) now_next,
             ))
             (λ e. let z = same r.end n (rw e at t) in
-            let none : items_from file r.end (n - r.end) ≡ [] = from-none file (omega arith) in
-            (rw none tt, rw none (reduce-over size F mode now_owing now_here)))
+            let none : items_from file r.end (n - r.end) ≡ [] = from_none file (omega arith) in
+            (rw none tt, rw none (reduce_over size F mode now_owing now_here)))
 
         -- The epoch is mended, and the filter emptied.
         pub slimming_full : eqb r.held size || eqb r.end n ≡ true → {owed'' out'' : List ℕ}
@@ -330,16 +330,16 @@ module _ {file : List ℕ} {n : ℕ} {mode : Mode} {size : ℕ} {last₀ heads�
         slimming_full t {owed''} {out''} me cl ol' a hl' =
             let (ready, settles) = now_over t in
             let wr : Wrote 0 (s.done ++ settled now_owing now_here) out₀ out'' =
-            wrote_then s.wrote_done (s.past_is ∙ sym (zero-add (length s.done))) (record { bytes-are = me.settles s.mid now_here now_owing now_stand }) in
+            wrote_then s.wrote_done (s.past_is ∙ sym (zero-add (length s.done))) (record { bytes_are = me.settles s.mid now_here now_owing now_stand }) in
             record {
               can = s.can;
               within = w.ends;
               holds = omega arith;
-              last-long = ll ∙ s.last-long;
+              last_long = ll ∙ s.last_long;
               heads_long = hl' ∙ hl ∙ s.heads_long;
-              next-long = nl ∙ s.next-long;
-              owed-long = ol' ∙ ol ∙ s.owed-long;
-              out_long = wrote-long wr;
+              next_long = nl ∙ s.next_long;
+              owed_long = ol' ∙ ol ∙ s.owed_long;
+              out_long = wrote_long wr;
               filter = holds_in a;
               ready = ready;
               done = s.done ++ settled now_owing now_here;
@@ -347,13 +347,13 @@ module _ {file : List ℕ} {n : ℕ} {mode : Mode} {size : ℕ} {last₀ heads�
               owing = [];
               mid = out'';
               wrote_done = wr;
-              wrote-here = wrote_none m' out'';
+              wrote_here = wrote_none m' out'';
               past_is = rw (length-append, length-settled, ← s.past_is) now_count;
               count = omega arith;
               few = now_few;
               fit = tt;
               known = λ p h. absurd (false≢true h);
-              owes = owes-none owed'';
+              owes = owes_none owed'';
               left_is = refl;
               clear = cl;
               over = λ h. refl;
@@ -371,19 +371,19 @@ module _ {file : List ℕ} {n : ℕ} {mode : Mode} {size : ℕ} {last₀ heads�
               can = s.can;
               within = w.ends;
               holds = omega arith;
-              last-long = ll ∙ s.last-long;
+              last_long = ll ∙ s.last_long;
               heads_long = hl ∙ s.heads_long;
-              next-long = nl ∙ s.next-long;
-              owed-long = ol ∙ s.owed-long;
-              out_long = wrote-long now_wrote ∙ wrote-long s.wrote_done;
+              next_long = nl ∙ s.next_long;
+              owed_long = ol ∙ s.owed_long;
+              out_long = wrote_long now_wrote ∙ wrote_long s.wrote_done;
               filter = slimming_filter;
-              ready = rw (← emptied_else size (pages_in file last' r.held) (λ q. eqb-false r.held size f (sym held-long ∙ q))) now_ready;
+              ready = rw (← emptied_else size (pages_in file last' r.held) (λ q. eqb-false r.held size f (sym held_long ∙ q))) now_ready;
               done = s.done;
               here = now_here;
               owing = now_owing;
               mid = s.mid;
               wrote_done = s.wrote_done;
-              wrote-here = now_wrote;
+              wrote_here = now_wrote;
               past_is = s.past_is;
               count = now_count;
               few = now_few;
@@ -400,15 +400,15 @@ module _ {file : List ℕ} {n : ℕ} {mode : Mode} {size : ℕ} {last₀ heads�
 
 module _ {file : List ℕ} {n : ℕ} {mode : Mode} {size : ℕ} {last₀ heads₀ next₀ owed₀ out₀ last heads next owed out : List ℕ} {i held base past m left : ℕ}
     (s : Slimming file n mode size last₀ heads₀ next₀ owed₀ out₀ last heads next owed out i held base past m left) (l : n ≤ i) where
-  all-kept : s.done ≡ reduce mode size (items_from file 0 n)
+  all_kept : s.done ≡ reduce mode size (items_from file 0 n)
   unfolding reduce_from cut kept lost settled flat
-  all-kept = simp append-nil at (rw (from-none file l, s.over l) at s.all)
+  all_kept = simp append-nil at (rw (from_none file l, s.over l) at s.all)
 
   pub slimming_count : m ≡ length (reduce mode size (items_from file 0 n))
-  slimming_count = omega (arith, s.count, s.past_is, ap length all-kept, ap length (s.over l))
+  slimming_count = omega (arith, s.count, s.past_is, ap length all_kept, ap length (s.over l))
 
   pub slimming_bytes : out ≡ sets out₀ 23 (encode_items (reduce mode size (items_from file 0 n)))
   unfolding encode_items
   slimming_bytes =
-      let none : out ≡ s.mid = rw (s.over l) at s.wrote-here.bytes-are in
-      none ∙ s.wrote_done.bytes-are ∙ ap (λ (t : List Item). sets out₀ 23 (encode_items t)) all-kept
+      let none : out ≡ s.mid = rw (s.over l) at s.wrote_here.bytes_are in
+      none ∙ s.wrote_done.bytes_are ∙ ap (λ (t : List Item). sets out₀ 23 (encode_items t)) all_kept

@@ -31,7 +31,7 @@ Noted from w filter last = (p : ℕ) → has p (pages w) ≡ true → get_or las
 
 -- From item `from` of n on, with a filter of `held` pages that may come to hold `most`.
 pub record CanLook (file : List ℕ) (n from most held : ℕ) (last : List ℕ) (base : ℕ) (heads next : List ℕ) : Type 0 where
-  pub file-long : 23 + 19 * n ≤ length file
+  pub file_long : 23 + 19 * n ≤ length file
   pub few : n < 4294967296
   pub within : from ≤ n
   pub holds : held ≤ most
@@ -62,7 +62,7 @@ flags_set (suc j) flags = cond (eqb (get_or flags j 0) 1) (suc (flags_set j flag
 
 -- The stretch from item `from` up to item `end`, where the filter had `had` pages before it, of which `owing` are flagged; no flag behind them is set.
 pub record CanKeep (file : List ℕ) (from end had done owing : ℕ) (filter last flags out : List ℕ) : Type 0 where
-  pub file-long : 23 + 19 * end ≤ length file
+  pub file_long : 23 + 19 * end ≤ length file
   pub within : from ≤ end
   pub before : had ≤ length filter
   pub filter_is : filter ≡ touched (take had filter) (items_from file from (end - from))
@@ -120,7 +120,7 @@ pub record Mended (filter flags : List ℕ) (from to : ℕ) (out out' : List ℕ
 -- ---- all stretches
 
 pub record CanSlim (file : List ℕ) (n size : ℕ) (last heads next owed out : List ℕ) : Type 0 where
-  pub file-long : 23 + 19 * n ≤ length file
+  pub file_long : 23 + 19 * n ≤ length file
   pub count : n < 4294967296
   pub some : 1 ≤ size
   pub few : size ≤ filter_most

@@ -2,8 +2,8 @@
 use mathlib.Core.Bool.{false}
 use borrow.Author.Rules.{rules}
 use Rattle.filter.proofs.Finding.{find_bucket}
-use Rattle.filter.proofs.Flagged.{place-held, flagged_scan, flagged-none, flagged-end, flagged-stands, flagged_flag}
-use Rattle.filter.proofs.Flagged.{flagged-next, flagged_less, flagged-here, flagged_more}
+use Rattle.filter.proofs.Flagged.{place_held, flagged_scan, flagged_none, flagged_end, flagged_stands, flagged_flag}
+use Rattle.filter.proofs.Flagged.{flagged_next, flagged_less, flagged_here, flagged_more}
 use Rattle.filter.proofs.find_unflagged.Goals as goal
 
 pub head-d-requires : goal.head-d-requires
@@ -12,23 +12,23 @@ head-d-requires c =
 
 pub loop-d-init : goal.loop-d-init
 loop-d-init c =
-    search flagged-none
+    search flagged_none
 
 -- The place in hand can be asked.
 pub is_flagged-requires : goal.is_flagged-requires
 is_flagged-requires c =
     let s = c.loop-d.invariant in
-    record { stands = flagged-stands c.requires.filter s c.loop-d-test.true; j_in_bounds = flagged_flag c.requires.filter s c.loop-d-test.true c.requires.held_in_bounds }
+    record { stands = flagged_stands c.requires.filter s c.loop-d-test.true; j_in_bounds = flagged_flag c.requires.filter s c.loop-d-test.true c.requires.held_in_bounds }
 
 -- It has the page, and such a flag.
 pub returns-then-is_flagged : goal.returns-then-is_flagged
 returns-then-is_flagged c =
-    flagged-here c.requires.filter c.loop-d.invariant c.loop-d-test.true c.is_flagged.ensures c.if-is_flagged.true
+    flagged_here c.requires.filter c.loop-d.invariant c.loop-d-test.true c.is_flagged.ensures c.if-is_flagged.true
 
 -- A place that was found by all places is asked for its flag.
 pub if_flagged-requires : goal.if_flagged-requires
 if_flagged-requires c =
-    record { held_in_bounds = c.requires.held_in_bounds; j_le_held = place-held c.requires.filter _ c.scan.ensures }
+    record { held_in_bounds = c.requires.held_in_bounds; j_le_held = place_held c.requires.filter _ c.scan.ensures }
 
 pub returns-then-left-eq0 : goal.returns-then-left-eq0
 returns-then-left-eq0 c =
@@ -36,7 +36,7 @@ returns-then-left-eq0 c =
 
 pub link-d-requires : goal.link-d-requires
 link-d-requires c =
-    search flagged-next
+    search flagged_next
 
 pub loop-d-smaller : goal.loop-d-smaller
 loop-d-smaller c =
@@ -50,4 +50,4 @@ loop-d-preserved c =
 -- and ends.
 pub returns : goal.returns
 returns c =
-    flagged-end c.requires.filter c.loop-d.invariant c.loop-d-test.false
+    flagged_end c.requires.filter c.loop-d.invariant c.loop-d-test.false

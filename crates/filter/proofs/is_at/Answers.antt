@@ -1,9 +1,9 @@
 -- `filter::is_at` meets its contract. Assumes nothing.
 use borrow.Author.Rules.{rules}
-use Rattle.filter.proofs.Noting.{notes-stands, at-page, at_none}
+use Rattle.filter.proofs.Noting.{notes_stands, at_page, at_none}
 use Rattle.filter.proofs.is_at.Goals as goal
 
-ruleset laws = (notes-stands, at-page, at_none, rules)
+ruleset laws = (notes_stands, at_page, at_none, rules)
 
 pub returns-then-held-c : goal.returns-then-held-c
 returns-then-held-c c =

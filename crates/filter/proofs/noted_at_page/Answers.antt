@@ -1,5 +1,5 @@
 -- `filter::noted_at_page` meets its contract. Assumes nothing.
-use Rattle.filter.proofs.Finding.{page_nowhere, page-here, page_other}
+use Rattle.filter.proofs.Finding.{page_nowhere, page_here, page_other}
 use Rattle.filter.proofs.noted_at_page.Goals as goal
 
 pub returns-then-held-j : goal.returns-then-held-j
@@ -8,7 +8,7 @@ returns-then-held-j c =
 
 pub returns-then-note_at-k : goal.returns-then-note_at-k
 returns-then-note_at-k c =
-    search page-here
+    search page_here
 
 pub returns : goal.returns
 returns c =

@@ -1,11 +1,11 @@
 -- `filter::scan` meets its contract. Assumes nothing.
 use mathlib.Core.Path.{refl}
 use borrow.Author.Rules.{rules}
-use Rattle.filter.proofs.Noting.{notes-stands, notes-place}
+use Rattle.filter.proofs.Noting.{notes_stands, notes_place}
 use Rattle.filter.proofs.Finding.{ahead, ahead_by, scan_none, scan_found, scan_four, scan_more, scan_all}
 use Rattle.filter.proofs.scan.Goals as goal
 
-ruleset stands = (notes-stands, ahead, ahead_by)
+ruleset stands = (notes_stands, ahead, ahead_by)
 
 ruleset laws = (scan_none, scan_more, scan_all, rules)
 
@@ -19,7 +19,7 @@ page_at-requires c =
 
 pub returns-then-page_at-page : goal.returns-then-page_at-page
 returns-then-page_at-page c =
-    search (notes-place, ahead)
+    search (notes_place, ahead)
 
 pub page_at-requires-in-loop-j : goal.page_at-requires-in-loop-j
 page_at-requires-in-loop-j c =
@@ -58,11 +58,11 @@ loop-j-2-init c =
 
 pub page_at-requires-in-loop-j-2-2 : goal.page_at-requires-in-loop-j-2-2
 page_at-requires-in-loop-j-2-2 c =
-    search notes-stands
+    search notes_stands
 
 pub returns-then-page_at-page-5 : goal.returns-then-page_at-page-5
 returns-then-page_at-page-5 c =
-    search notes-place
+    search notes_place
 
 pub loop-j-2-preserved : goal.loop-j-2-preserved
 loop-j-2-preserved c =

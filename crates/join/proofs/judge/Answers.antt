@@ -1,8 +1,8 @@
 -- `join::judge` meets its contract. Assumes nothing.
-use Rattle.join.proofs.Judging.{first-refused, second-refused, both-refused, none-refused, is_sound}
+use Rattle.join.proofs.Judging.{first-refused, second_refused, both_refused, none_refused, is_sound}
 use Rattle.join.proofs.judge.Goals as goal
 
-ruleset laws = (first-refused, second-refused, both-refused, none-refused, is_sound)
+ruleset laws = (first-refused, second_refused, both_refused, none_refused, is_sound)
 
 pub returns-in-Faulty : goal.returns-in-Faulty
 returns-in-Faulty c =

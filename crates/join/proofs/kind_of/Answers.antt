@@ -1,8 +1,8 @@
 -- `join::kind_of` meets its contract. Assumes nothing.
-use Rattle.join.proofs.Heading.{kind-first, kind-second, kind-one, kind_other, kind-whole}
+use Rattle.join.proofs.Heading.{kind_first, kind_second, kind_one, kind_other, kind_whole}
 use Rattle.join.proofs.kind_of.Goals as goal
 
-ruleset laws = (kind-first, kind-second, kind-one, kind_other, kind-whole)
+ruleset laws = (kind_first, kind_second, kind_one, kind_other, kind_whole)
 
 pub returns-then-a-eq2 : goal.returns-then-a-eq2
 returns-then-a-eq2 c =

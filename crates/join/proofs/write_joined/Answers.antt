@@ -1,8 +1,8 @@
 -- `join::write_joined` meets its contract. Assumes nothing.
-use Rattle.join.proofs.Joining.{joining-first, joining-second, joining-room, joining_reads, joining-fits, joining_reads_more, joining_fits_more, joining-file}
+use Rattle.join.proofs.Joining.{joining-first, joining_second, joining_room, joining_reads, joining_fits, joining_reads_more, joining_fits_more, joining_file}
 use Rattle.join.proofs.write_joined.Goals as goal
 
-ruleset laws = (joining-first, joining-second, joining-room, joining_reads, joining-fits, joining_reads_more, joining_fits_more, joining-file)
+ruleset laws = (joining-first, joining_second, joining_room, joining_reads, joining_fits, joining_reads_more, joining_fits_more, joining_file)
 
 pub header_at-n-requires : goal.header_at-n-requires
 header_at-n-requires c =

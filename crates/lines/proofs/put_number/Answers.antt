@@ -1,9 +1,9 @@
 -- `lines::put_number` meets its contract. Assumes nothing.
 use borrow.Author.Rules.{rules}
-use Rattle.lines.proofs.Numerals.{room-number, ends-number}
+use Rattle.lines.proofs.Numerals.{room-number, ends_number}
 use Rattle.lines.proofs.put_number.Goals as goal
 
-ruleset number = (room-number, ends-number, rules)
+ruleset number = (room-number, ends_number, rules)
 
 pub spell-requires : goal.spell-requires
 spell-requires c =

@@ -1,5 +1,5 @@
 -- `replays::bad_start` meets its contract. Assumes nothing.
-use Rattle.replays.proofs.Starting.{start_sift, start_many, start-short, start-twice}
+use Rattle.replays.proofs.Starting.{start_sift, start_many, start_short, start_twice}
 use Rattle.replays.proofs.bad_start.Goals as goal
 
 pub returns-then-k-resident : goal.returns-then-k-resident
@@ -8,7 +8,7 @@ returns-then-k-resident c =
 
 pub returns-then-cache-k : goal.returns-then-cache-k
 returns-then-cache-k c =
-    search start-short
+    search start_short
 
 pub has_twice-requires : goal.has_twice-requires
 has_twice-requires c =
@@ -16,4 +16,4 @@ has_twice-requires c =
 
 pub returns : goal.returns
 returns c =
-    search start-twice
+    search start_twice

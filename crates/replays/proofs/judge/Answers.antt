@@ -2,10 +2,10 @@
 use borrow.Author.Rules.{rules}
 use Rattle.trace.proofs.Checking.{sound_long}
 use Rattle.trace.proofs.Tests.{test_fails, test_passes, tests_done}
-use Rattle.replays.proofs.Judging.{file_faulty, file_sound, flag_outside, flag_size, size-start, flag_small, flag_large, flag_start, flag_tight, flag_room, events-fit}
+use Rattle.replays.proofs.Judging.{file_faulty, file_sound, flag_outside, flag_size, size_start, flag_small, flag_large, flag_start, flag_tight, flag_room, events_fit}
 use Rattle.replays.proofs.judge.Goals as goal
 
-ruleset laws = (file_faulty, file_sound, test_fails, test_passes, tests_done, flag_outside, flag_size, size-start, flag_small, flag_large, flag_start, flag_tight, flag_room, events-fit, sound_long)
+ruleset laws = (file_faulty, file_sound, test_fails, test_passes, tests_done, flag_outside, flag_size, size_start, flag_small, flag_large, flag_start, flag_tight, flag_room, events_fit, sound_long)
 
 pub returns-in-Faulty : goal.returns-in-Faulty
 returns-in-Faulty c =
@@ -25,7 +25,7 @@ returns-then-k-h c =
 
 pub bad_start-requires : goal.bad_start-requires
 bad_start-requires c =
-    search (size-start, rules)
+    search (size_start, rules)
 
 pub returns-then-bad_start : goal.returns-then-bad_start
 returns-then-bad_start c =

@@ -1,7 +1,7 @@
 -- `replays::replay_in` meets its contract. Assumes nothing.
 use borrow.Author.Rules.{rules}
 use Rattle.lru_cache.proofs.Rows.{rows_kept}
-use Rattle.replays.proofs.Replaying.{refused-answer, refused_cache, refused-kept, refused-events, done_sound, done_answer, done_cache, done_kept, done_events}
+use Rattle.replays.proofs.Replaying.{refused-answer, refused_cache, refused-kept, refused_events, done_sound, done_answer, done_cache, done_kept, done_events}
 use Rattle.replays.proofs.replay_in.Goals as goal
 
 pub replay_sound-requires : goal.replay_sound-requires
@@ -10,7 +10,7 @@ replay_sound-requires c =
 
 pub returns-in-Faulty : goal.returns-in-Faulty
 returns-in-Faulty c =
-    record { value = search (refused-answer, rules); cache_after = search refused_cache; kept_after = search refused-kept; events_after = search refused-events }
+    record { value = search (refused-answer, rules); cache_after = search refused_cache; kept_after = search refused-kept; events_after = search refused_events }
 
 -- What the replay told and left is the answer.
 pub returns-in-Sound : goal.returns-in-Sound

@@ -1,7 +1,7 @@
 -- `slim::keep` meets its contract. Assumes nothing.
 use native.Mathlib.Omega.{arith}
 use borrow.Author.Rules.{rules}
-use Rattle.filter.proofs.Bits.{flags-length, bytes-kept}
+use Rattle.filter.proofs.Bits.{flags_length, bytes-kept}
 use Rattle.slim.proofs.Keeping.{keeping_none, keeping_long, keeping_owing, keeping_has, keeping_flag}
 use Rattle.slim.proofs.Keeping.{keeping_new, keeping_last, keeping_skip, keeping_drop, keeping_count, keeping_bytes, keeping_flags}
 use Rattle.slim.proofs.keep.Goals as goal
@@ -30,7 +30,7 @@ overflow_add-c c =
     let at = c.loop-k.invariant in
     let flag = keeping_flag at c.loop-k-test.true c.item_at-x.ensures c.is_at.ensures c.if-is_at.true in
     let same = at.flags_same in
-    let long = flags-length c.args.owed.now in
+    let long = flags_length c.args.owed.now in
     let good = c.well_formed.1.1.1.1.1.1.1.1.1.1.1.0 in
     record { fits = omega arith }
 
@@ -63,7 +63,7 @@ loop-k-preserved-then-is_at c =
 pub noted_from-skip-requires : goal.noted_from-skip-requires
 noted_from-skip-requires c =
     let test = c.loop-k-test.true in
-    let long = c.requires.can_keep.file-long in
+    let long = c.requires.can_keep.file_long in
     record { filter = c.requires.filter; k_in_bounds = omega arith; none_noted = c.loop-k.invariant.skipped }
 
 pub item-requires-then-skip-k : goal.item-requires-then-skip-k

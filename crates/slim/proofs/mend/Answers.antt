@@ -2,12 +2,12 @@
 use mathlib.Core.Path.{◌∙◌}
 use native.Mathlib.Omega.{arith}
 use borrow.Author.Rules.{rules}
-use Rattle.filter.proofs.Noting.{notes-long}
+use Rattle.filter.proofs.Noting.{notes_long}
 use Rattle.filter.proofs.Bits.{flag_bit, bytes-kept}
 use Rattle.slim.proofs.Mending.{mending_none, mending_long, mending_stop, mending_clear, mending_all, mending_set, mending_leave}
 use Rattle.slim.proofs.mend.Goals as goal
 
-ruleset laws = (mending_none, notes-long, rules)
+ruleset laws = (mending_none, notes_long, rules)
 
 pub loop-k-init : goal.loop-k-init
 loop-k-init c =

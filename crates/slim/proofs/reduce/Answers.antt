@@ -1,8 +1,8 @@
 -- `slim::reduce` meets its contract. Assumes nothing.
-use Rattle.slim.proofs.Reducing.{reducing_sound, reduce-refused, reduce-kept, reduce-written, reduce-file}
+use Rattle.slim.proofs.Reducing.{reducing_sound, reduce-refused, reduce-kept, reduce-written, reduce_file}
 use Rattle.slim.proofs.reduce.Goals as goal
 
-ruleset laws = (reducing_sound, reduce-refused, reduce-kept, reduce-written, reduce-file)
+ruleset laws = (reducing_sound, reduce-refused, reduce-kept, reduce-written, reduce_file)
 
 pub write_reduced-requires : goal.write_reduced-requires
 write_reduced-requires c =

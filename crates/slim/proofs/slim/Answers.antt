@@ -1,6 +1,6 @@
 -- `slim::slim` meets its contract. Assumes nothing.
 use borrow.Author.Rules.{rules}
-use Rattle.filter.proofs.Bits.{flags-kept, bytes-kept}
+use Rattle.filter.proofs.Bits.{flags_kept, bytes-kept}
 use Rattle.slim.proofs.Slimming.{slimming_none, slimming_look, slimming_filter, slimming_keep, slimming_mend, slimming_moves}
 use Rattle.slim.proofs.Slimming.{slimming_full, slimming_else, slimming_count, slimming_bytes}
 use Rattle.slim.proofs.slim.Goals as goal
@@ -32,7 +32,7 @@ end_epoch-requires c =
     record {
       filter = slimming_filter at c.loop-i-test.true c.limit_of-most.ensures c.look-s.ensures.looked c.look-s.ensures.within c.look-s.auto.last c.look-s.auto.heads c.look-s.auto.next;
       can_mend = slimming_mend at c.loop-i-test.true c.limit_of-most.ensures c.look-s.ensures.looked c.look-s.ensures.within c.look-s.auto.last c.look-s.auto.heads c.look-s.auto.next
-          c.keep-t.ensures.done_value c.keep-t.ensures.out_after c.keep-t.ensures.flags (flags-kept _ _ c.keep-t.auto.owed);
+          c.keep-t.ensures.done_value c.keep-t.ensures.out_after c.keep-t.ensures.flags (flags_kept _ _ c.keep-t.auto.owed);
     }
 
 -- and its filter emptied.
@@ -51,8 +51,8 @@ pub loop-i-preserved-then-c-size : goal.loop-i-preserved-then-c-size
 loop-i-preserved-then-c-size c =
     slimming_full c.loop-i.invariant c.loop-i-test.true c.limit_of-most.ensures
     c.look-s.ensures.looked c.look-s.ensures.within c.look-s.auto.last c.look-s.auto.heads c.look-s.auto.next
-    c.keep-t.ensures.done_value c.keep-t.ensures.out_after c.keep-t.ensures.flags (flags-kept _ _ c.keep-t.auto.owed)
-    c.if-c-size.true c.end_epoch.ensures.mended c.end_epoch.ensures.clear (flags-kept _ _ c.end_epoch.auto.owed) c.empty-base.ensures.holds c.empty-base.auto.heads
+    c.keep-t.ensures.done_value c.keep-t.ensures.out_after c.keep-t.ensures.flags (flags_kept _ _ c.keep-t.auto.owed)
+    c.if-c-size.true c.end_epoch.ensures.mended c.end_epoch.ensures.clear (flags_kept _ _ c.end_epoch.auto.owed) c.empty-base.ensures.holds c.empty-base.auto.heads
 
 -- fewer are left after one that does not, and the next goes on with its pages.
 pub loop-i-smaller : goal.loop-i-smaller
@@ -64,7 +64,7 @@ pub loop-i-preserved : goal.loop-i-preserved
 loop-i-preserved c =
     slimming_else c.loop-i.invariant c.loop-i-test.true c.limit_of-most.ensures
     c.look-s.ensures.looked c.look-s.ensures.within c.look-s.auto.last c.look-s.auto.heads c.look-s.auto.next
-    c.keep-t.ensures.done_value c.keep-t.ensures.out_after c.keep-t.ensures.flags (flags-kept _ _ c.keep-t.auto.owed) c.if-c-size.false
+    c.keep-t.ensures.done_value c.keep-t.ensures.out_after c.keep-t.ensures.flags (flags_kept _ _ c.keep-t.auto.owed) c.if-c-size.false
 
 pub shape_of-last : goal.shape_of-last
 shape_of-last c =
@@ -81,7 +81,7 @@ shape_of-next c =
 -- The flags' bytes are as many as before.
 pub shape_of-owed : goal.shape_of-owed
 shape_of-owed c =
-    bytes-kept _ _ c.loop-i.invariant.owed-long
+    bytes-kept _ _ c.loop-i.invariant.owed_long
 
 pub shape_of-out : goal.shape_of-out
 shape_of-out c =

@@ -1,10 +1,10 @@
 -- `trace::header_verdict` meets its contract. Assumes nothing.
 use borrow.Author.Tests.{lt-ltb, le-ltb}
 use Rattle.trace.proofs.Tests.{test_fails, test_passes, tests_done, flag}
-use Rattle.trace.proofs.Ruling.{flag_rules, flag_long, flag_other, length-fits, bytes_fit}
+use Rattle.trace.proofs.Ruling.{flag_rules, flag_long, flag_other, length_fits, bytes_fit}
 use Rattle.trace.proofs.header_verdict.Goals as goal
 
-ruleset laws = (test_fails, test_passes, tests_done, flag, lt-ltb, le-ltb, flag_rules, flag_long, flag_other, length-fits, bytes_fit)
+ruleset laws = (test_fails, test_passes, tests_done, flag, lt-ltb, le-ltb, flag_rules, flag_long, flag_other, length_fits, bytes_fit)
 
 pub returns-then-file-lt23 : goal.returns-then-file-lt23
 returns-then-file-lt23 c =

@@ -1,8 +1,8 @@
 -- `trace::keeps_reduced` meets its contract. Assumes nothing.
-use Rattle.trace.proofs.Ruling.{reduced-filter, reduced_many, reduced-some, reduced-none}
+use Rattle.trace.proofs.Ruling.{reduced_filter, reduced_many, reduced_some, reduced_none}
 use Rattle.trace.proofs.keeps_reduced.Goals as goal
 
-ruleset laws = (reduced-filter, reduced_many, reduced-some, reduced-none)
+ruleset laws = (reduced_filter, reduced_many, reduced_some, reduced_none)
 
 pub returns-in-Outside : goal.returns-in-Outside
 returns-in-Outside c =

@@ -1,6 +1,6 @@
 -- `lines::replay::put_evicted` meets its contract. Assumes nothing.
 use borrow.Author.Rules.{rules}
-use Rattle.lines.proofs.Lines.{told_none, told-some}
+use Rattle.lines.proofs.Lines.{told_none, told_some}
 use Rattle.lines.proofs.replay.put_evicted.Goals as goal
 
 pub returns-then-fourth-eq0 : goal.returns-then-fourth-eq0
@@ -9,4 +9,4 @@ returns-then-fourth-eq0 c =
 
 pub returns : goal.returns
 returns c =
-    record { put = search told-some; upper_bound = search rules }
+    record { put = search told_some; upper_bound = search rules }

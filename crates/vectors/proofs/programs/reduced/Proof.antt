@@ -1,6 +1,6 @@
 -- `vectors::programs::reduced` meets its contract. Assumes nothing.
 use Rattle.std.proofs.Common.{sym, ◌∙◌, rules}
-use Rattle.lines.proofs.Texts.{leaves-long}
+use Rattle.lines.proofs.Texts.{leaves_long}
 use Rattle.vectors.proofs.programs.reduced.Statement.{statement}
 use Rattle.vectors.proofs.programs.reduced.Tie as tie
 
@@ -17,6 +17,6 @@ reduced_spec =
     (λ c κs. search rules)
     (λ c. search rules)
     (λ c κs. search rules)
-    (λ c. sym (leaves-long c.before.before.before.program.ensures ∙ (search rules)))
+    (λ c. sym (leaves_long c.before.before.before.program.ensures ∙ (search rules)))
     (λ c κs. search rules)
     (λ c. search rules))

@@ -1,6 +1,6 @@
 -- `vectors::programs::replayed` meets its contract. Assumes nothing.
 use Rattle.std.proofs.Common.{sym, ◌∙◌, rules}
-use Rattle.lines.proofs.Texts.{leaves-long}
+use Rattle.lines.proofs.Texts.{leaves_long}
 use Rattle.vectors.proofs.programs.replayed.Statement.{statement}
 use Rattle.vectors.proofs.programs.replayed.Tie as tie
 
@@ -20,7 +20,7 @@ replayed_spec =
     (λ c κs. search rules)
     (λ c. search rules)
     (λ c κs. search rules)
-    (λ c. sym (leaves-long c.before.before.before.before.before.before.before.program.ensures ∙ (search rules)))
+    (λ c. sym (leaves_long c.before.before.before.before.before.before.before.program.ensures ∙ (search rules)))
     (λ c κs. search rules)
     (λ c κs. search rules)
     (λ c. search rules))
