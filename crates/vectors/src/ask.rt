@@ -8,10 +8,11 @@ use join::Joined;
 use limits::Cache;
 use replays::Replayed;
 use slim::Reduced;
+use std::io;
 use trace::Checked;
 
 // The settings of a reduction, and how many bytes are lent to it.
-#[derive(Drop)]
+#[derive(Clone, Copy)]
 pub struct Reduction {
     pub mode: u64,
     pub filter: u64,
@@ -19,7 +20,7 @@ pub struct Reduction {
 }
 
 // The cache size of a replay, how many places and pages of a cache it is lent, and how many numbers for its events.
-#[derive(Drop)]
+#[derive(Clone, Copy)]
 pub struct Replaying {
     pub size: u64,
     pub places: usize,
@@ -33,13 +34,13 @@ fn most(n: usize, limit: usize) -> usize
     if n < limit { n } else { limit }
 }
 
-pub fn check(t: Tally, name: &[u8], f: File, want: [u64; 6]) -> Tally {
+pub fn check(rt: &impl Print, t: Tally, name: &[u8], f: File, want: [u64; 6]) -> io::Result<Tally> {
     let bytes = f.bytes;
     let got = match trace::check(build::shown(&bytes, f.len)) {
         Checked::Accepted(h) => answer::header(h),
         Checked::Refused(r) => answer::refusal(r, 0),
     };
-    tell::line(t, b"check: ", name, got, want, true)
+    tell::line(rt, t, b"check: ", name, got, want, true)
 }
 
 fn reduce_into(file: &[u8], s: Reduction, out: &mut [u8]) -> [u64; 6] {
@@ -53,6 +54,7 @@ fn reduce_into(file: &[u8], s: Reduction, out: &mut [u8]) -> [u64; 6] {
 
 // `after` is what the output should begin with.
 pub fn reduce(
+    rt: &impl Print,
     t: Tally,
     call: &[u8],
     name: &[u8],
@@ -60,13 +62,13 @@ pub fn reduce(
     s: Reduction,
     want: [u64; 6],
     after: File,
-) -> Tally {
+) -> io::Result<Tally> {
     let bytes = f.bytes;
     let left = after.bytes;
     let mut out = [0u8; 512];
     let got = reduce_into(build::shown(&bytes, f.len), s, &mut out);
     let kept = noise::holds_file(&out, s.room, build::shown(&left, after.len));
-    tell::line(t, call, name, got, want, kept)
+    tell::line(rt, t, call, name, got, want, kept)
 }
 
 fn join_into(f: &[u8], g: &[u8], room: usize, out: &mut [u8]) -> [u64; 6] {
@@ -79,6 +81,7 @@ fn join_into(f: &[u8], g: &[u8], room: usize, out: &mut [u8]) -> [u64; 6] {
 }
 
 pub fn join(
+    rt: &impl Print,
     t: Tally,
     call: &[u8],
     name: &[u8],
@@ -87,7 +90,7 @@ pub fn join(
     room: usize,
     want: [u64; 6],
     after: File,
-) -> Tally {
+) -> io::Result<Tally> {
     let one = f.bytes;
     let two = g.bytes;
     let left = after.bytes;
@@ -99,7 +102,7 @@ pub fn join(
         &mut out,
     );
     let kept = noise::holds_file(&out, room, build::shown(&left, after.len));
-    tell::line(t, call, name, got, want, kept)
+    tell::line(rt, t, call, name, got, want, kept)
 }
 
 // The buffers are lent whole: each is cut once, by the caller.
@@ -149,6 +152,7 @@ fn replay_into(
 
 // The cache starts as `start`, with `marks`, and noise beyond it; `pages`, `kept` and `events` are what the three buffers should begin with afterwards.
 pub fn replay(
+    rt: &impl Print,
     t: Tally,
     call: &[u8],
     name: &[u8],
@@ -160,7 +164,7 @@ pub fn replay(
     pages: &[u64],
     kept: &[u64],
     events: &[u64],
-) -> Tally {
+) -> io::Result<Tally> {
     let bytes = f.bytes;
     let mut cache = [0u64; Cache::PLACES + 1];
     let mut column = [false; Cache::PLACES + 1];
@@ -177,5 +181,5 @@ pub fn replay(
     let one = noise::holds_numbers(&cache, s.places, pages, start);
     let two = noise::holds_marks(&column, s.places, kept, marks);
     let three = noise::holds_numbers(&out, s.room, events, &start[0..0]);
-    tell::line(t, call, name, got, want, one && two && three)
+    tell::line(rt, t, call, name, got, want, one && two && three)
 }

@@ -3,7 +3,7 @@ use super::row;
 use trace::Header;
 
 // The first `len` of the bytes; the others are zero.
-#[derive(Drop)]
+#[derive(Clone, Copy)]
 pub struct File {
     pub bytes: [u8; 512],
     pub len: usize,

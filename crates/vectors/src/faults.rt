@@ -3,9 +3,17 @@ use super::ask::{Reduction, Replaying};
 use super::build::File;
 use super::tell::Tally;
 use super::{ask, build, row};
+use std::io;
 
 // All that goes with the file is good, so that nothing else can be what is refused.
-fn alone(t: Tally, name: &[u8], f: File, number: u64, item: u64) -> Tally {
+fn alone(
+    rt: &impl Print,
+    t: Tally,
+    name: &[u8],
+    f: File,
+    number: u64,
+    item: u64,
+) -> io::Result<Tally> {
     let want = [number, 1, item, 0, 0, 0];
     let second = [number, 2, item, 0, 0, 0];
     let back = [number, 1, item, 2, 0, 0];
@@ -22,9 +30,10 @@ fn alone(t: Tally, name: &[u8], f: File, number: u64, item: u64) -> Tally {
         resident: 2,
         room: 40,
     };
-    let t = ask::check(t, name, f, want);
-    let t = ask::reduce(t, b"reduce: ", name, f, s, want, none);
+    let t = ask::check(rt, t, name, f, want)?;
+    let t = ask::reduce(rt, t, b"reduce: ", name, f, s, want, none)?;
     let t = ask::replay(
+        rt,
         t,
         b"replay: ",
         name,
@@ -36,13 +45,30 @@ fn alone(t: Tally, name: &[u8], f: File, number: u64, item: u64) -> Tally {
         &[],
         &[],
         &[],
-    );
-    let t = ask::join(t, b"join, first file: ", name, f, good, 140, want, none);
-    ask::join(t, b"join, second file: ", name, good, f, 140, second, none)
+    )?;
+    let t = ask::join(rt, t, b"join, first file: ", name, f, good, 140, want, none)?;
+    ask::join(
+        rt,
+        t,
+        b"join, second file: ",
+        name,
+        good,
+        f,
+        140,
+        second,
+        none,
+    )
 }
 
 // Settings, start, the other file and the room are wrong too, and the file's refusal still comes first.
-fn among_others(t: Tally, name: &[u8], f: File, number: u64, item: u64) -> Tally {
+fn among_others(
+    rt: &impl Print,
+    t: Tally,
+    name: &[u8],
+    f: File,
+    number: u64,
+    item: u64,
+) -> io::Result<Tally> {
     let want = [number, 1, item, 0, 0, 0];
     let second = [number, 2, item, 0, 0, 0];
     let back = [number, 1, item, 9, 0, 0];
@@ -59,8 +85,9 @@ fn among_others(t: Tally, name: &[u8], f: File, number: u64, item: u64) -> Tally
         resident: 9,
         room: 2,
     };
-    let t = ask::reduce(t, b"reduce, all wrong: ", name, f, s, want, none);
+    let t = ask::reduce(rt, t, b"reduce, all wrong: ", name, f, s, want, none)?;
     let t = ask::replay(
+        rt,
         t,
         b"replay, all wrong: ",
         name,
@@ -72,28 +99,41 @@ fn among_others(t: Tally, name: &[u8], f: File, number: u64, item: u64) -> Tally
         &[],
         &[],
         &[],
-    );
-    let t = ask::join(t, b"join, both files: ", name, f, f, 5, want, none);
-    ask::join(t, b"join, all wrong: ", name, late, f, 5, second, none)
+    )?;
+    let t = ask::join(rt, t, b"join, both files: ", name, f, f, 5, want, none)?;
+    ask::join(rt, t, b"join, all wrong: ", name, late, f, 5, second, none)
 }
 
-fn faulty(t: Tally, name: &[u8], f: File, number: u64, item: u64) -> Tally {
-    let t = alone(t, name, f, number, item);
-    among_others(t, name, f, number, item)
+fn faulty(
+    rt: &impl Print,
+    t: Tally,
+    name: &[u8],
+    f: File,
+    number: u64,
+    item: u64,
+) -> io::Result<Tally> {
+    let t = alone(rt, t, name, f, number, item)?;
+    among_others(rt, t, name, f, number, item)
 }
 
 // A line `b`: a byte's place, the byte put there, the file's length, the refusal and its item.
-pub fn with_byte(t: Tally, name: &[u8], f: File, n: [u64; 48]) -> Tally {
+pub fn with_byte(
+    rt: &impl Print,
+    t: Tally,
+    name: &[u8],
+    f: File,
+    n: [u64; 48],
+) -> io::Result<Tally> {
     let g = f.poked(n[0] as usize, build::low(n[1])).cut(n[2] as usize);
-    faulty(t, name, g, n[3], n[4])
+    faulty(rt, t, name, g, n[3], n[4])
 }
 
 // A line `x`: the refusal and its item, how many items are there, the four header values, the items, and their marks.
-pub fn tried(t: Tally, name: &[u8], n: [u64; 48]) -> Tally {
+pub fn tried(rt: &impl Print, t: Tally, name: &[u8], n: [u64; 48]) -> io::Result<Tally> {
     // Lent from a copy: a row that is lent cannot be read.
     let copy = n;
     let h = build::head(n[3], n[4], n[5], n[6]);
     let items = row::behind(row::list(&copy), 7);
     let f = build::file_of(h, row::pairs(items, n[2]), row::marks(items, n[2]));
-    faulty(t, name, f, n[0], n[1])
+    faulty(rt, t, name, f, n[0], n[1])
 }

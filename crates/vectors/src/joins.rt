@@ -1,10 +1,11 @@
 // A join: its answer and its whole output.
 use super::tell::Tally;
 use super::{answer, ask, build, row};
+use std::io;
 
 // A line `j`: the header values of the first file and of the second, the room, the refusal, or 0 for it, and then kind, filter size,
 // references and items of the joined file; and always the items of the first file and of the second, and the marks of all these.
-pub fn tried(t: Tally, name: &[u8], n: [u64; 48]) -> Tally {
+pub fn tried(rt: &impl Print, t: Tally, name: &[u8], n: [u64; 48]) -> io::Result<Tally> {
     let call = b"join: ";
     let room = n[8] as usize;
     // Lent from a copy: a row that is lent cannot be read.
@@ -22,9 +23,9 @@ pub fn tried(t: Tally, name: &[u8], n: [u64; 48]) -> Tally {
     );
     if n[9] != 0 {
         let want = [n[9], 1, 0, 0, 0, 0];
-        return ask::join(t, call, name, f, g, room, want, build::nothing());
+        return ask::join(rt, t, call, name, f, g, room, want, build::nothing());
     }
     let h = build::head(n[10], n[11], n[12], n[13]);
     let after = build::file_of(h, row::pairs(items, n[13]), marks);
-    ask::join(t, call, name, f, g, room, answer::header(h), after)
+    ask::join(rt, t, call, name, f, g, room, answer::header(h), after)
 }

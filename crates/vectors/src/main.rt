@@ -16,15 +16,20 @@ mod runs;
 mod table;
 mod tell;
 
+use reading::read_full;
+use std::io;
 use tell::Tally;
 
-fn main() {
-    let mut buffer = io::large_buffer();
-    let n = io::read_full(0, &mut buffer);
+// A longer table is cut at so many bytes.
+const MOST: usize = 65536;
+
+fn main(rt: HostRuntime) -> io::Result<()> {
+    let mut buffer = [0u8; MOST];
+    let n = read_full(&mut rt.stdin(), &mut buffer)?;
     let t = Tally {
         passed: 0,
         failed: 0,
     };
-    let t = table::each(t, &buffer[..n]);
-    tell::total(t);
+    let t = table::each(&rt, t, &buffer[..n])?;
+    tell::total(&rt, t)
 }

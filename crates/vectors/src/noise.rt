@@ -16,7 +16,7 @@ fn due_number(over: &[u64], start: &[u64], i: usize) -> u64 {
     if i < start.len() {
         return start[i];
     }
-    std::num::wrapping_add_u64(i as u64, 7000000)
+    (i as u64).wrapping_add(7000000)
 }
 
 // A mark among marks that are numbers, 1 for a written page; the noise is every other one.

@@ -4,6 +4,7 @@ use super::tell::Tally;
 use super::{build, noise, row, tell};
 use limits::Input;
 use lines::replay::ROOM;
+use std::io;
 
 // A slash stands for a line feed where a text is told.
 fn told(b: u8, text: bool) -> u8 {
@@ -42,10 +43,19 @@ fn filled(input: &mut [u8], n: [u64; 48], f: File) -> usize {
     if asked == 0 { end } else { asked }
 }
 
-fn compared(t: Tally, call: &[u8], name: &[u8], m: usize, out: &[u8], want: &[u8]) -> Tally {
+fn compared(
+    rt: &impl Print,
+    t: Tally,
+    call: &[u8],
+    name: &[u8],
+    m: usize,
+    out: &[u8],
+    want: &[u8],
+) -> io::Result<Tally> {
     let kept = noise::holds_file(out, out.len(), want);
     let due = want.len() as u64;
     tell::line(
+        rt,
         t,
         call,
         name,
@@ -56,7 +66,13 @@ fn compared(t: Tally, call: &[u8], name: &[u8], m: usize, out: &[u8], want: &[u8
 }
 
 // A line `l`: how many settings bytes, six of them, the length or 0; the name, a bar, and the output.
-pub fn replayed(t: Tally, name: &[u8], f: File, n: [u64; 48]) -> Tally {
+pub fn replayed(
+    rt: &impl Print,
+    t: Tally,
+    name: &[u8],
+    f: File,
+    n: [u64; 48],
+) -> io::Result<Tally> {
     let mut input = [0u8; Input::PLACES + 1];
     let len = filled(&mut input, n, f);
     let mut out = [0u8; ROOM];
@@ -65,6 +81,7 @@ pub fn replayed(t: Tally, name: &[u8], f: File, n: [u64; 48]) -> Tally {
     let mut want = [0u8; 512];
     let due = copied(&mut want, 0, row::behind_bar(name), true);
     compared(
+        rt,
         t,
         b"replay program: ",
         row::before_bar(name),
@@ -74,29 +91,44 @@ pub fn replayed(t: Tally, name: &[u8], f: File, n: [u64; 48]) -> Tally {
     )
 }
 
-fn reduced(t: Tally, name: &[u8], f: File, n: [u64; 48], want: &[u8]) -> Tally {
+fn reduced(
+    rt: &impl Print,
+    t: Tally,
+    name: &[u8],
+    f: File,
+    n: [u64; 48],
+    want: &[u8],
+) -> io::Result<Tally> {
     let mut input = [0u8; Input::PLACES + 1];
     let len = filled(&mut input, n, f);
     let mut out = [0u8; Input::PLACES];
     noise::fill_bytes(&mut out);
     let m = lines::reduce::program(row::between(&input, 0, len), &mut out);
-    compared(t, b"reduce program: ", row::before_bar(name), m, &out, want)
+    compared(
+        rt,
+        t,
+        b"reduce program: ",
+        row::before_bar(name),
+        m,
+        &out,
+        want,
+    )
 }
 
 // A line `d`: the same, where the reduce program refuses.
-pub fn refused(t: Tally, name: &[u8], f: File, n: [u64; 48]) -> Tally {
+pub fn refused(rt: &impl Print, t: Tally, name: &[u8], f: File, n: [u64; 48]) -> io::Result<Tally> {
     let mut want = [0u8; 512];
     let due = copied(&mut want, 0, row::behind_bar(name), true);
-    reduced(t, name, f, n, build::shown(&want, due))
+    reduced(rt, t, name, f, n, build::shown(&want, due))
 }
 
 // A line `w`: the same with no bar, where the reduce program writes a file; its references, how many items are kept, these, and
 // their marks.
-pub fn written(t: Tally, name: &[u8], f: File, n: [u64; 48]) -> Tally {
+pub fn written(rt: &impl Print, t: Tally, name: &[u8], f: File, n: [u64; 48]) -> io::Result<Tally> {
     let h = build::head(n[4], n[5], n[8], n[9]);
     let count = n[9];
     let items = row::behind(row::list(&n), 10);
     let after = build::file_of(h, row::pairs(items, count), row::marks(items, count));
     let bytes = after.bytes;
-    reduced(t, name, f, n, build::shown(&bytes, after.len))
+    reduced(rt, t, name, f, n, build::shown(&bytes, after.len))
 }

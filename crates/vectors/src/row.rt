@@ -54,7 +54,7 @@ fn with_digit(x: u64, digit: u8) -> u64 {
     if 1844674407370955161 < x {
         return x;
     }
-    std::num::wrapping_add_u64(x * 10, (digit - 48) as u64)
+    (x * 10).wrapping_add((digit - 48) as u64)
 }
 
 // The numbers up to the colon, and the place behind it.

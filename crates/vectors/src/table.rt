@@ -2,20 +2,28 @@
 use super::build::File;
 use super::tell::Tally;
 use super::{build, checks, faults, joins, programs, reductions, row, runs, tell};
+use std::io;
 
-fn tried(t: Tally, form: u8, name: &[u8], f: File, n: [u64; 48]) -> Tally {
+fn tried(
+    rt: &impl Print,
+    t: Tally,
+    form: u8,
+    name: &[u8],
+    f: File,
+    n: [u64; 48],
+) -> io::Result<Tally> {
     match form {
-        b'c' => checks::tried(t, name, n),
-        b'b' => faults::with_byte(t, name, f, n),
-        b'x' => faults::tried(t, name, n),
-        b'r' => reductions::tried(t, name, f, n),
-        b'j' => joins::tried(t, name, n),
-        b'p' => runs::tried(t, name, f, n),
-        b'l' => programs::replayed(t, name, f, n),
-        b'd' => programs::refused(t, name, f, n),
-        b'w' => programs::written(t, name, f, n),
-        b'f' | b'#' | b'\n' => t,
-        _ => tell::unread(t, name),
+        b'c' => checks::tried(rt, t, name, n),
+        b'b' => faults::with_byte(rt, t, name, f, n),
+        b'x' => faults::tried(rt, t, name, n),
+        b'r' => reductions::tried(rt, t, name, f, n),
+        b'j' => joins::tried(rt, t, name, n),
+        b'p' => runs::tried(rt, t, name, f, n),
+        b'l' => programs::replayed(rt, t, name, f, n),
+        b'd' => programs::refused(rt, t, name, f, n),
+        b'w' => programs::written(rt, t, name, f, n),
+        b'f' | b'#' | b'\n' => Ok(t),
+        _ => tell::unread(rt, t, name),
     }
 }
 
@@ -34,7 +42,7 @@ fn file_of_line(form: u8, f: File, n: [u64; 48]) -> File {
     f
 }
 
-pub fn each(t: Tally, text: &[u8]) -> Tally {
+pub fn each(rt: &impl Print, t: Tally, text: &[u8]) -> io::Result<Tally> {
     let mut told = t;
     let mut f = build::nothing();
     let mut at = 0;
@@ -43,8 +51,8 @@ pub fn each(t: Tally, text: &[u8]) -> Tally {
         let n = r.numbers;
         let name = row::between(text, r.from, r.to);
         f = file_of_line(r.form, f, n);
-        told = tried(told, r.form, name, f, n);
+        told = tried(rt, told, r.form, name, f, n)?;
         at = r.next;
     }
-    told
+    Ok(told)
 }

@@ -1,5 +1,6 @@
 // One line for each vector, and the count of those that passed and failed.
 use super::noise;
+use std::io;
 
 #[derive(Drop)]
 pub struct Tally {
@@ -7,60 +8,57 @@ pub struct Tally {
     pub failed: u64,
 }
 
-fn number(x: u64) {
-    io::write_all(1, b" ");
-    io::print_decimal(1, x);
+fn number(rt: &impl Print, x: u64) -> io::Result<()> {
+    print!(rt; " {x}")
 }
 
-fn wrong(got: [u64; 6], kept: bool) {
-    io::write_all(1, b": WRONG, came");
-    number(got[0]);
-    number(got[1]);
-    number(got[2]);
-    number(got[3]);
-    number(got[4]);
-    number(got[5]);
+fn wrong(rt: &impl Print, got: [u64; 6], kept: bool) -> io::Result<()> {
+    print!(rt; ": WRONG, came")?;
+    number(rt, got[0])?;
+    number(rt, got[1])?;
+    number(rt, got[2])?;
+    number(rt, got[3])?;
+    number(rt, got[4])?;
+    number(rt, got[5])?;
     if !kept {
-        io::write_all(1, b", and a buffer differs");
+        print!(rt; ", and a buffer differs")?;
     }
-    io::write_all(1, b"\n");
+    println!(rt)
 }
 
 // Compares the answer of a call; `kept` says whether every lent buffer holds what it should.
 pub fn line(
+    rt: &impl Print,
     t: Tally,
     call: &[u8],
     name: &[u8],
     got: [u64; 6],
     want: [u64; 6],
     kept: bool,
-) -> Tally {
-    io::write_all(1, call);
-    io::write_all(1, name);
+) -> io::Result<Tally> {
+    rt.write_all(call)?;
+    rt.write_all(name)?;
     if kept {
         if noise::holds_numbers(&got, 6, &want, &want) {
-            io::write_all(1, b": ok\n");
-            return Tally {
-                passed: std::num::wrapping_add_u64(t.passed, 1),
+            println!(rt; ": ok")?;
+            return Ok(Tally {
+                passed: t.passed.wrapping_add(1),
                 failed: t.failed,
-            };
+            });
         }
     }
-    wrong(got, kept);
-    Tally {
+    wrong(rt, got, kept)?;
+    Ok(Tally {
         passed: t.passed,
-        failed: std::num::wrapping_add_u64(t.failed, 1),
-    }
+        failed: t.failed.wrapping_add(1),
+    })
 }
 
 // A line of no known form is no vector that passed.
-pub fn unread(t: Tally, name: &[u8]) -> Tally {
-    line(t, b"unknown form: ", name, [0; 6], [1; 6], true)
+pub fn unread(rt: &impl Print, t: Tally, name: &[u8]) -> io::Result<Tally> {
+    line(rt, t, b"unknown form: ", name, [0; 6], [1; 6], true)
 }
 
-pub fn total(t: Tally) {
-    io::print_decimal(1, t.passed);
-    io::write_all(1, b" passed, ");
-    io::print_decimal(1, t.failed);
-    io::write_all(1, b" failed\n");
+pub fn total(rt: &impl Print, t: Tally) -> io::Result<()> {
+    println!(rt; "{} passed, {} failed", t.passed, t.failed)
 }
