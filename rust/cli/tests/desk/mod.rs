@@ -17,6 +17,14 @@ pub struct Ended {
     pub err: String,
 }
 
+/// A test that passed leaves nothing: the gate refuses the links that some make,
+/// wherever in the repository they lie.
+impl Drop for Desk {
+    fn drop(&mut self) {
+        let _ = fs::remove_dir_all(&self.0);
+    }
+}
+
 impl Desk {
     /// A fresh folder; the test's name keeps tests apart.
     pub fn new(name: &str) -> Self {
