@@ -80,14 +80,14 @@ tree_one f a = record {
 tree_both : (l r : Tree) → IsJoinedTree l → IsJoinedTree r → Rising 0 (items_of_all (files l ++ files r)) → SumsFit (joined l) (joined r) → IsJoinedTree (both l r)
 unfolding files joined
 tree_both l r a b up s =
-    let both-items : items (joined l) ++ items (joined r) ≡ items_of_all (files l ++ files r) = rw (a.items_are, b.items_are, items_both (files l) (files r)) in
-    let rises : Rising 0 (items (joined l) ++ items (joined r)) = rw both-items up in
+    let both_items : items (joined l) ++ items (joined r) ≡ items_of_all (files l ++ files r) = rw (a.items_are, b.items_are, items_both (files l) (files r)) in
+    let rises : Rising 0 (items (joined l) ++ items (joined r)) = rw both_items up in
     let (w, h, i) = written (joined l) (joined r) a.is_file b.is_file rises s in
     record {
       all_join = (joins (joined l) (joined r) a.is_file b.is_file rises s, a.all_join, b.all_join);
       is_file = w;
       header_is = h ∙ header_both (files l) (files r) (joined l) (joined r) a.header_is b.header_is;
-      items_are = i ∙ both-items;
+      items_are = i ∙ both_items;
     }
 
 -- ---- the promises

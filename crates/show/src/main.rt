@@ -8,15 +8,23 @@ use trace::{Checked, Header, Refusal};
 // A file of more bytes is not looked at.
 const MOST: usize = 65535;
 
+fn field(rt: &impl Print, name: &str, value: u64) -> io::Result<()> {
+    print!(rt; "{name}{value}")
+}
+
 fn accepted(rt: &impl Print, h: Header) -> io::Result<()> {
-    println!(rt;
-        "kind {} filter {} references {} items {}",
-        h.kind, h.filter, h.references, h.items
-    )
+    field(rt, "kind ", h.kind)?;
+    field(rt, " filter ", h.filter)?;
+    field(rt, " references ", h.references)?;
+    field(rt, " items ", h.items)?;
+    println!(rt; "")
 }
 
 fn refused(rt: &impl Print, r: Refusal) -> io::Result<()> {
-    println!(rt; "refused {} trace {} item {}", r.number, r.trace, r.item)
+    field(rt, "refused ", r.number)?;
+    field(rt, " trace ", r.trace)?;
+    field(rt, " item ", r.item)?;
+    println!(rt; "")
 }
 
 fn main(rt: HostRuntime) -> io::Result<()> {
