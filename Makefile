@@ -1,6 +1,6 @@
 .PHONY: test demo bench fmt clean
 
-# Everything that is promised, from nothing. The last line is 'N passed, M failed'.
+# Everything that is promised, proved from nothing where no earlier run on this machine has proved the same files. The last line is 'N passed, M failed'.
 test:
 	@.ci/test
 
@@ -15,7 +15,7 @@ bench:
 	@cargo run --quiet --release --offline --manifest-path rust/Cargo.toml -p bench
 
 fmt:
-	@for crate in crates/*; do (cd $$crate && rt fmt); done
+	@for crate in crates/*; do (cd $$crate && rt fmt) || exit 1; done
 
 clean:
-	@rm -rf target rust/target
+	@rm -rf target rust/target crates/*/out

@@ -21,7 +21,8 @@ MADE = re.compile(r"^(invariant|decreases)-loop|^returns|^μ-|^(room|len|lend|sh
 LEMMAS = {"is-item": "is_item_lem", "kind-by": "kind_by_lem", "next-with": "next_with_lem", "cache-least": "cache_least_lem", "cache-most": "cache_most_lem",
           "filter-least": "filter_least_lem", "filter-most": "filter_most_lem", "items-least": "items_least_lem", "items-most": "items_most_lem",
           "input-least": "input_least_lem", "input-most": "input_most_lem",
-          "items-from": "items_from_lem", "kept-write": "kept_write_lem", "last-place": "last_place_lem", "later-phase": "later_phase_lem"}
+          "items-from": "items_from_lem", "getD-items": "get_or-items", "getD-pages": "get_or-pages", "getD-place": "get_or-place",
+          "has-getD": "has-get_or", "frames-getD": "frames-get_or", "kept-write": "kept_write_lem", "last-place": "last_place_lem", "later-phase": "later_phase_lem"}
 # words of the kit's lists, which a dash joins to another name
 WORDS = {"length", "take", "drop", "map", "append", "set", "get_or", "reverse", "number", "snoc", "replicate"}
 

@@ -4,7 +4,8 @@ use std::env;
 use std::path::{Path, PathBuf};
 
 const OVERRIDE: &str = "SHKEMBRUQ_ARCHIVE";
-const IN_REPOSITORY: &str = "../../target/staticlib";
+/// As `rust/archive` writes it; the kit compiles for x86-64 alone.
+const IN_REPOSITORY: &str = "../../target/staticlib/libabi.a";
 
 fn main() {
     println!("cargo::rerun-if-env-changed={OVERRIDE}");
@@ -26,18 +27,8 @@ fn archive() -> PathBuf {
         Some(path) => PathBuf::from(path),
         None => {
             let package = env::var_os("CARGO_MANIFEST_DIR").expect("cargo sets the package folder");
-            Path::new(&package).join(IN_REPOSITORY).join(name())
+            Path::new(&package).join(IN_REPOSITORY)
         }
-    }
-}
-
-/// The kit's own archive is for x86-64. For another machine `rust/archive` has
-/// one made beside it.
-fn name() -> String {
-    let machine = env::var("CARGO_CFG_TARGET_ARCH").expect("cargo sets the target's machine");
-    match machine.as_str() {
-        "x86_64" => "libabi.a".to_string(),
-        other => format!("libabi-{other}.a"),
     }
 }
 

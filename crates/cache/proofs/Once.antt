@@ -1,5 +1,5 @@
--- The contract of `replay` allows one result, and of each lent buffer one content afterwards. Of a function that is walked by hand the kit reads no relation of values off the
--- contract, so the theorem is over its clauses: where they hold of two ends of one call, the two ends are the same. Assumes nothing.
+-- The contract of `replay` allows one result, and of each lent buffer one content afterwards. The theorem is over the contract's clauses:
+-- where they hold of two ends of one call, the two ends are the same. Assumes nothing.
 use mathlib.Core.Path.{◌≡◌, sym, ◌∙◌}
 use mathlib.Core.List.{[], ◌∷◌}
 use seplogic.Ra.Ura.{Ura}

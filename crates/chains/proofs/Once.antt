@@ -4,7 +4,7 @@ use Rattle.pages.proofs.Once.{OneResult, OneBuffer}
 use Rattle.chains.proofs.mix.Kinds as mix
 use Rattle.chains.proofs.mix.Reads.{Post as mix_post}
 use Rattle.chains.proofs.head.Kinds as head
-use Rattle.chains.proofs.head.Reads.{Post as Head-post}
+use Rattle.chains.proofs.head.Reads.{Post as head_post}
 use Rattle.chains.proofs.link.Kinds as link
 use Rattle.chains.proofs.link.Reads.{Post as link_post}
 use Rattle.chains.proofs.push.Kinds as push
@@ -15,7 +15,7 @@ use Rattle.chains.proofs.clear.Reads.{Post as clear_post}
 pub mix_once : OneResult mix.ps mix.r mix_post
 mix_once κs args x y s t p q = p ∙ sym q
 
-pub head_once : OneResult head.ps head.r Head-post
+pub head_once : OneResult head.ps head.r head_post
 head_once κs args x y s t p q = p.0 ∙ sym q.0
 
 pub link_once : OneResult link.ps link.r link_post

@@ -11,7 +11,7 @@ use Rattle.pages.specs.Pages.{has, place}
 use Rattle.pages.proofs.Choice.{split, same}
 use Rattle.pages.proofs.Rows.{take_next}
 use Rattle.pages.proofs.Added.{has_join}
-use Rattle.pages.proofs.Table.{place_most, has_within, get_d_place}
+use Rattle.pages.proofs.Table.{place_most, has_within, get_or-place}
 use Rattle.trace.specs.Layout.{item_at}
 use Rattle.trace.specs.declared.Item.{Item}
 use Rattle.chains.specs.Chains.{at, newest, mixed}
@@ -55,7 +55,7 @@ module _ {file last : List ℕ} {held : ℕ} {l : List ℕ} (n : Notes file last
       (λ e.
       let z = same (place p l) i e in
       let w : place p l < length l = rw (notes_long n, z) h in
-      absurd (t (r ∙ sym (notes_page n i h) ∙ rw z at (get_d_place p l (has_within p l w)))))
+      absurd (t (r ∙ sym (notes_page n i h) ∙ rw z at (get_or-place p l (has_within p l w)))))
       (λ e. let d = eqb-false (place p l) i e in omega arith)
 
   module _ {i : ℕ} (s : Scanning held l p i) where

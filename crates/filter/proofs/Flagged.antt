@@ -9,7 +9,7 @@ use lib.Dec.{ltb, eqb}
 use borrow.Author.Tests.{ltb-true, ltb-false, eq-eqb}
 use Rattle.pages.specs.Pages.{place}
 use Rattle.pages.proofs.Choice.{split, same, and_true}
-use Rattle.pages.proofs.Table.{place_most, has_within, get_d_place}
+use Rattle.pages.proofs.Table.{place_most, has_within, get_or-place}
 use Rattle.trace.specs.Layout.{item_at}
 use Rattle.chains.specs.Chains.{at, newest}
 use Rattle.chains.proofs.Newest.{newest_beyond}
@@ -90,7 +90,7 @@ module _ {file last : List ℕ} {held base : ℕ} {heads next l : List ℕ} (f :
         (λ t. split (ltb (place p l) held)
         (λ o.
         let w = ltb-true (place p l) held o in
-        let there : get_or l (place p l) 0 ≡ p = get_d_place p l (has_within p l (rw (notes_long f.notes) w)) in
+        let there : get_or l (place p l) 0 ≡ p = get_or-place p l (has_within p l (rw (notes_long f.notes) w)) in
         let q : flagged_at on flags l (place p l) ≡ suc p = rw (t, there) in
         absurd (newest_beyond (flagged_at on flags l) (suc p) held (place p l) (omega arith) w q))
         (λ o. let w = ltb-false (place p l) held o in rw t (omega (arith, place_most p l, notes_long f.notes))))

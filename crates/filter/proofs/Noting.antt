@@ -12,17 +12,17 @@ use borrow.Author.Tests.{eq-eqb, ne_eqb, eqb-false}
 use Rattle.pages.specs.Pages.{has, add, place}
 use Rattle.pages.proofs.Choice.{split, same}
 use Rattle.pages.proofs.Added.{add_new, distinct_add}
-use Rattle.pages.proofs.Table.{place_within, get_d_place, has_get_d, place_alone}
+use Rattle.pages.proofs.Table.{place_within, get_or-place, has-get_or, place_alone}
 use Rattle.trace.specs.Layout.{item_at}
 use Rattle.trace.specs.declared.Item.{Item}
 use Rattle.filter.specs.Filter.{pages_of, Stands, Notes}
 
 module _ (file : List ℕ) where
-  get_d_pages : (items : List ℕ) (j : ℕ) → j < length items → get_or (pages_of file items) j 0 ≡ (item_at file (get_or items j 0)).page
+  get_or-pages : (items : List ℕ) (j : ℕ) → j < length items → get_or (pages_of file items) j 0 ≡ (item_at file (get_or items j 0)).page
   unfolding pages_of
-  get_d_pages [] j h = absurd (omega arith)
-  get_d_pages (i ∷ items) zero h = refl
-  get_d_pages (i ∷ items) (suc j) h = get_d_pages items j (omega arith)
+  get_or-pages [] j h = absurd (omega arith)
+  get_or-pages (i ∷ items) zero h = refl
+  get_or-pages (i ∷ items) (suc j) h = get_or-pages items j (omega arith)
 
   -- An item that is read at a place has the page of the item noted there.
   pub page_read : (last : List ℕ) (j : ℕ) {i : ℕ} {x : Item} → i ≡ get_or last j 0 → x ≡ item_at file i → x.page ≡ (item_at file (get_or last j 0)).page
@@ -42,7 +42,7 @@ module _ {file last : List ℕ} {held : ℕ} {l : List ℕ} (n : Notes file last
   pub notes_page : (j : ℕ) → j < held → get_or l j 0 ≡ (item_at file (get_or last j 0)).page
   notes_page j h =
       let b : j < length (take held last) = rw (length-take-le held last n.within) h in
-      rw (← n.pages_are) (get_d_pages file (take held last) j b ∙ rw (get_or-take held last j 0 h))
+      rw (← n.pages_are) (get_or-pages file (take held last) j b ∙ rw (get_or-take held last j 0 h))
 
   -- A page that is read at a place has that place.
   pub notes_place : (p j : ℕ) → j < held → {q : ℕ} → q ≡ (item_at file (get_or last j 0)).page → q ≡ p → j ≡ place p l
@@ -53,7 +53,7 @@ module _ {file last : List ℕ} {held : ℕ} {l : List ℕ} (n : Notes file last
   notes_item k h =
       let i = place k (take held last) in
       let w : i < held = rw (length-take-le held last n.within) at (place_within k (take held last) h) in
-      let g : get_or last i 0 ≡ k = sym (get_or-take held last i 0 w) ∙ get_d_place k (take held last) h in
+      let g : get_or last i 0 ≡ k = sym (get_or-take held last i 0 w) ∙ get_or-place k (take held last) h in
       rw (← notes_place (item_at file k).page i w refl (rw g)) (w, g)
 
   -- What is noted at the place of an item's page tells whether the item is noted.
@@ -63,7 +63,7 @@ module _ {file last : List ℕ} {held : ℕ} {l : List ℕ} (n : Notes file last
       let w : j < length (take held last) = rw (length-take-le held last n.within) h in
       split (has k (take held last))
       (λ t. eq-eqb (get_or last j 0) k (notes_item k t).1 ∙ sym t)
-      (λ t. ne_eqb (get_or last j 0) k (λ z. true≢false (sym (has_get_d k (take held last) j w (get_or-take held last j 0 h ∙ z)) ∙ t)) ∙ sym t)
+      (λ t. ne_eqb (get_or last j 0) k (λ z. true≢false (sym (has-get_or k (take held last) j w (get_or-take held last j 0 h ∙ z)) ∙ t)) ∙ sym t)
 
   -- ---- whether a page stands at a place
 
@@ -72,7 +72,7 @@ module _ {file last : List ℕ} {held : ℕ} {l : List ℕ} (n : Notes file last
     at_page w {q} r =
         split (eqb q p)
         (λ t. t ∙ sym (eq-eqb _ c (sym (notes_place p c w r (same q p t)))))
-        (λ t. t ∙ sym (ne_eqb _ c (λ z. eqb-false q p t (r ∙ sym (notes_page c w) ∙ rw z at (get_d_place p l h)))))
+        (λ t. t ∙ sym (ne_eqb _ c (λ z. eqb-false q p t (r ∙ sym (notes_page c w) ∙ rw z at (get_or-place p l h)))))
 
     pub at_none : held ≤ c → false ≡ eqb (place p l) c
     at_none w = sym (ne_eqb _ c (λ z. omega (arith, place_within p l h, notes_long)))

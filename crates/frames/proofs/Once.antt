@@ -1,5 +1,5 @@
--- The contracts of `load` and `save` allow one content of each lent buffer. Both are walked by hand, and of such a function the kit reads no relation of values off the contract,
--- so the theorems are over its clauses: where they hold of two ends of one call, the two ends are the same. Assumes nothing.
+-- The contracts of `load` and `save` allow one content of each lent buffer. The theorems are over the contracts' clauses:
+-- where they hold of two ends of one call, the two ends are the same. Assumes nothing.
 use mathlib.Core.Path.{◌≡◌, sym, ◌∙◌}
 use mathlib.Core.List.{[], ◌∷◌}
 use seplogic.Ra.Ura.{Ura}

@@ -75,7 +75,7 @@ fn count(t: &mut Tally, fetched: bool, evicted: bool)
     *t = t.counted(fetched, evicted);
 }
 
-// The same by value: the loop that calls it holds no reference to a struct, which would have to be proved by hand.
+// The same by value, for the loop that calls it.
 fn count_one(mut t: Tally, fetched: bool, evicted: bool) -> Tally
     requires { HasRoom t }
     ensures { result ≡ counted_of t fetched evicted }

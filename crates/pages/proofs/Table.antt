@@ -41,10 +41,10 @@ module _ (p : ℕ) where
   place_most (q ∷ l) = split (eqb p q) (λ e. rw e (omega arith)) (λ e. let h = place_most l in rw e (omega arith))
 
   -- A page that is in a list stands at its place.
-  pub get_d_place : (l : List ℕ) → has p l ≡ true → get_or l (place p l) 0 ≡ p
+  pub get_or-place : (l : List ℕ) → has p l ≡ true → get_or l (place p l) 0 ≡ p
   unfolding has place
-  get_d_place [] h = absurd (false≢true h)
-  get_d_place (q ∷ l) h = split (eqb p q) (λ e. rw e (sym (same p q e))) (λ e. rw e (get_d_place l (rw e at h)))
+  get_or-place [] h = absurd (false≢true h)
+  get_or-place (q ∷ l) h = split (eqb p q) (λ e. rw e (sym (same p q e))) (λ e. rw e (get_or-place l (rw e at h)))
 
   -- A page that is in a list keeps its place whatever stands after the list.
   pub place-append : (l r : List ℕ) → has p l ≡ true → place p (l ++ r) ≡ place p l
@@ -70,7 +70,7 @@ module _ (p : ℕ) where
 pub place_same : (p q : ℕ) (l : List ℕ) → has q l ≡ true → place q l ≡ place p l → q ≡ p
 place_same p q l h e =
     let g : has p l ≡ true = has_within p l (rw e at (place_within q l h)) in
-    sym (get_d_place q l h) ∙ ap (λ (i : ℕ). get_or l i 0) e ∙ get_d_place p l g
+    sym (get_or-place q l h) ∙ ap (λ (i : ℕ). get_or l i 0) e ∙ get_or-place p l g
 
 -- A page is among the first c places exactly if its place is below c.
 pub has-taken : (p c : ℕ) (l : List ℕ) → c ≤ length l → has p (take c l) ≡ ltb (place p l) c
@@ -83,11 +83,11 @@ has-taken p (suc c) (q ∷ l) h =
     (λ e. rw e (has-taken p c l (omega arith) ∙ sym (leb-suc-suc (suc (place p l)) c)))
 
 -- What stands at a place of a list is in it.
-pub has_get_d : (p : ℕ) (l : List ℕ) (j : ℕ) → j < length l → get_or l j 0 ≡ p → has p l ≡ true
+pub has-get_or : (p : ℕ) (l : List ℕ) (j : ℕ) → j < length l → get_or l j 0 ≡ p → has p l ≡ true
 unfolding has
-has_get_d p [] j h e = absurd (omega arith)
-has_get_d p (q ∷ l) zero h e = rw (eq-eqb p q (sym e))
-has_get_d p (q ∷ l) (suc j) h e = rw (has_get_d p l j (omega arith) e) (or-true (eqb p q))
+has-get_or p [] j h e = absurd (omega arith)
+has-get_or p (q ∷ l) zero h e = rw (eq-eqb p q (sym e))
+has-get_or p (q ∷ l) (suc j) h e = rw (has-get_or p l j (omega arith) e) (or-true (eqb p q))
 
 -- Where no page stands twice, the one place that holds a page is its place.
 pub place_alone : (p : ℕ) (l : List ℕ) (j : ℕ) → Distinct l → j < length l → get_or l j 0 ≡ p → j ≡ place p l
@@ -95,5 +95,5 @@ unfolding place
 place_alone p [] j d h e = absurd (omega arith)
 place_alone p (q ∷ l) zero d h e = rw (eq-eqb p q (sym e))
 place_alone p (q ∷ l) (suc j) d h e =
-    let n : eqb p q ≡ false = ne_eqb p q (λ t. true≢false (sym (has_get_d q l j (omega arith) (e ∙ t)) ∙ d.0)) in
+    let n : eqb p q ≡ false = ne_eqb p q (λ t. true≢false (sym (has-get_or q l j (omega arith) (e ∙ t)) ∙ d.0)) in
     rw n (ap suc (place_alone p l j d.1 (omega arith) e))

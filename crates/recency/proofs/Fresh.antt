@@ -10,7 +10,7 @@ use lib.Seq.{length-take-le, get_or-take}
 use lib.Dec.{eqb}
 use Rattle.pages.specs.Pages.{has, place, Distinct}
 use Rattle.pages.proofs.Added.{has-reverse, distinct_reverse}
-use Rattle.pages.proofs.Table.{get_d_place, place_within, place_alone}
+use Rattle.pages.proofs.Table.{get_or-place, place_within, place_alone}
 use Rattle.pages.proofs.Rows.{take_over, length_over}
 use Rattle.frames.specs.Frames.{frames_by, frames_of}
 use Rattle.frames.proofs.By.{by_same, by_columns}
@@ -68,7 +68,7 @@ module _ {log next heads : List ℕ} {n : ℕ} (linked : Linked log next heads n
               let k : has p f ≡ true = sym (has-reverse p f) ∙ g in
               let j = place p f in
               let o : j < n = omega (arith, place_within p f k, first) in
-              let z : get_or log j 0 ≡ p = sym (get_or-take n log j 0 o) ∙ get_d_place p f k in
+              let z : get_or log j 0 ≡ p = sym (get_or-take n log j 0 o) ∙ get_or-place p f k in
               let u = wrote_live log 0 n (omega arith) stale j (omega arith) o (again j o) ∙ says j o in
               rw z at u);
         }

@@ -11,7 +11,7 @@ use lib.Dec.{eqb, ltb}
 use borrow.Author.Tests.{lt-ltb, ltb-true, ltb-false}
 use Rattle.pages.specs.Pages.{has, place}
 use Rattle.pages.proofs.Choice.{split}
-use Rattle.pages.proofs.Table.{has_get_d, get_d_place, place_within}
+use Rattle.pages.proofs.Table.{has-get_or, get_or-place, place_within}
 use Rattle.chains.specs.Chains.{at, newest}
 use Rattle.chains.proofs.Newest.{newest-at, newest_beyond, newest_same}
 use Rattle.recency.specs.Linked.{last_from}
@@ -28,7 +28,7 @@ module _ (log : List ℕ) (low end p : ℕ) (behind : low ≤ end) (within : end
   pub has_part : (r : ℕ) → low ≤ r → r < end → get_or log r 0 ≡ p → has p (part log low end) ≡ true
   has_part r f h q =
       let u : low + (r - low) ≡ r = omega arith in
-      has_get_d p (part log low end) (r - low) (omega (arith, long)) (reads (r - low) (omega arith) ∙ rw u q)
+      has-get_or p (part log low end) (r - low) (omega (arith, long)) (reads (r - low) (omega arith) ∙ rw u q)
 
   -- It is in it exactly if its last place is.
   pub has_last : has p (part log low end) ≡ ltb low (newest (at log) p end)
@@ -44,7 +44,7 @@ module _ (log : List ℕ) (low end p : ℕ) (behind : low ≤ end) (within : end
       (λ h.
       let j = place p (part log low end) in
       let w = place_within p (part log low end) h in
-      let g = get_d_place p (part log low end) h in
+      let g = get_or-place p (part log low end) h in
       let o : low + j < end = omega (arith, long) in
       absurd (newest_beyond (at log) p end (low + j) (omega (arith, ltb-false low (newest (at log) p end) t)) o (sym (reads j o) ∙ g)))
       (λ h. h ∙ sym t))

@@ -8,7 +8,7 @@ use lib.ListN.{length, get_or, set, length-set}
 use lib.Seq.{append_snoc}
 use Rattle.pages.specs.Pages.{has, add, place}
 use Rattle.pages.proofs.Added.{add_old, length_new}
-use Rattle.pages.proofs.Table.{has_within, has_beyond, place_most, get_d_place}
+use Rattle.pages.proofs.Table.{has_within, has_beyond, place_most, get_or-place}
 use Rattle.trace.specs.Layout.{item_at, items_from}
 use Rattle.trace.specs.declared.Item.{Item}
 use Rattle.trace.proofs.Items.{length_from, from_turn, from_none, from_more}
@@ -118,7 +118,7 @@ module _ {file : List ℕ} {n from most held base : ℕ} {last₀ heads₀ next�
     unfolding F
     looking_old g =
         let o : has (item_at file k).page F ≡ true = has_within _ _ (rw (filled, ← found) g) in
-        let p : (item_at file k).page ≡ get_or F j 0 = sym (get_d_place (item_at file k).page F o) ∙ rw found in
+        let p : (item_at file k).page ≡ get_or F j 0 = sym (get_or-place (item_at file k).page F o) ∙ rw found in
         more c j refl refl h (rw (add_old (item_at file k).page F o) (holds_again r.filter k readable j g p)) r.holds (omega (arith, room, r.holds)) found
 
     module _ (g : c ≤ j) where

@@ -29,6 +29,6 @@ fn line(figure: &Figure) {
 /// The programs are for x86-64, and their stack is painted only there.
 #[cfg(not(target_arch = "x86_64"))]
 fn of_programs() -> Result<Vec<Figure>, String> {
-    println!("programs: not measured, since they are for x86-64 and an emulator runs them here");
+    println!("programs: not measured, since they are for x86-64 alone");
     Ok(Vec::new())
 }

@@ -1,6 +1,6 @@
 //! The two programs, run as they are and, on x86-64, with a library that has
-//! their `main` called on painted stack. They are for x86-64: on another machine
-//! an emulator runs them, and such a library is not compiled.
+//! their `main` called on painted stack. They are for x86-64 alone, and on another
+//! machine such a library is not compiled.
 
 use std::env;
 use std::io::Write;
@@ -10,7 +10,7 @@ use std::process::{Command, Output, Stdio};
 const OVERRIDE: &str = "SHKEMBRUQ_PROGRAMS";
 const IN_REPOSITORY: &str = concat!(env!("CARGO_MANIFEST_DIR"), "/../../target/bin");
 
-/// Runs a program, on another machine too.
+/// Runs a program, or says that this machine is not one for it.
 const RUN: &str = concat!(env!("CARGO_MANIFEST_DIR"), "/../../examples/run");
 
 /// What the library says on standard error.

@@ -1,5 +1,5 @@
 //! The programs `reduce` and `replay` do their work, and the stack that they
-//! take is measured where they run without an emulator.
+//! take is measured on x86-64, for which they are.
 
 use compare::report::say;
 use stack::inputs::for_programs;
@@ -26,7 +26,7 @@ fn input(settings: &[u8]) -> Vec<u8> {
 fn output((program, settings): (&str, &[u8])) -> Vec<u8> {
     if cfg!(not(target_arch = "x86_64")) {
         say(&format!(
-            "stack: program {program}: run by an emulator, its stack NOT measured"
+            "stack: program {program}: for x86-64 alone, its stack NOT measured"
         ));
     }
     written(program, &input(settings)).unwrap_or_else(|error| panic!("{error}"))

@@ -18,7 +18,10 @@ loop-d-init c =
 pub is_flagged-requires : goal.is_flagged-requires
 is_flagged-requires c =
     let s = c.loop-d.invariant in
-    record { stands = flagged_stands c.requires.filter s c.loop-d-test.true; j_in_bounds = flagged_flag c.requires.filter s c.loop-d-test.true c.requires.held_in_bounds }
+    record {
+      stands = flagged_stands c.requires.filter s c.loop-d-test.true;
+      j_in_bounds = flagged_flag c.requires.filter s c.loop-d-test.true c.requires.held_in_bounds;
+    }
 
 -- It has the page, and such a flag.
 pub returns-then-is_flagged : goal.returns-then-is_flagged

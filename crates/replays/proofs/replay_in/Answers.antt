@@ -6,11 +6,20 @@ use Rattle.replays.proofs.replay_in.Goals as goal
 
 pub replay_sound-requires : goal.replay_sound-requires
 replay_sound-requires c =
-    record { events_value = done_sound _ _ _ c.args.kept.now _ c.args.events.now c.requires.kept_len c.judge.ensures c.in-Sound.is; kept_len = c.requires.kept_len; rows = rows_kept c.requires.rows _ _ c.judge.auto.next c.judge.auto.heads }
+    record {
+      events_value = done_sound _ _ _ c.args.kept.now _ c.args.events.now c.requires.kept_len c.judge.ensures c.in-Sound.is;
+      kept_len = c.requires.kept_len;
+      rows = rows_kept c.requires.rows _ _ c.judge.auto.next c.judge.auto.heads;
+    }
 
 pub returns-in-Faulty : goal.returns-in-Faulty
 returns-in-Faulty c =
-    record { value = search (refused-answer, rules); cache_after = search refused_cache; kept_after = search refused-kept; events_after = search refused_events }
+    record {
+      value = search (refused-answer, rules);
+      cache_after = search refused_cache;
+      kept_after = search refused-kept;
+      events_after = search refused_events;
+    }
 
 -- What the replay told and left is the answer.
 pub returns-in-Sound : goal.returns-in-Sound
@@ -19,4 +28,9 @@ returns-in-Sound c =
     let marks = c.requires.kept_len in
     let is = c.judge.ensures in
     let sound = c.in-Sound.is in
-    record { value = done_answer _ _ _ c.args.kept.now _ events marks is sound c.replay_sound.ensures.value; cache_after = done_cache _ _ _ c.args.kept.now _ events marks is sound c.replay_sound.ensures.cache_after; kept_after = done_kept _ _ _ c.args.kept.now _ events marks is sound c.replay_sound.ensures.kept_after; events_after = done_events _ _ _ c.args.kept.now _ events marks is sound c.replay_sound.ensures.events_after }
+    record {
+      value = done_answer _ _ _ c.args.kept.now _ events marks is sound c.replay_sound.ensures.value;
+      cache_after = done_cache _ _ _ c.args.kept.now _ events marks is sound c.replay_sound.ensures.cache_after;
+      kept_after = done_kept _ _ _ c.args.kept.now _ events marks is sound c.replay_sound.ensures.kept_after;
+      events_after = done_events _ _ _ c.args.kept.now _ events marks is sound c.replay_sound.ensures.events_after;
+    }

@@ -7,4 +7,7 @@ use Rattle.slim.proofs.end_epoch.Goals as goal
 pub returns-then-owing-eq0 : goal.returns-then-owing-eq0
 returns-then-owing-eq0 c =
     let long = notes_long c.requires.filter.notes in
-    record { mended = mending_quiet _ _ _ _ _ _ _ long c.requires.can_mend c.if-owing-eq0.true; clear = quiet_clear c.requires.can_mend c.if-owing-eq0.true (flag_bit _) }
+    record {
+      mended = mending_quiet _ _ _ _ _ _ _ long c.requires.can_mend c.if-owing-eq0.true;
+      clear = quiet_clear c.requires.can_mend c.if-owing-eq0.true (flag_bit _);
+    }

@@ -100,7 +100,12 @@ loop-k-preserved-then-skip-k c =
 pub owe-n-requires : goal.owe-n-requires
 owe-n-requires c =
     let at = c.loop-k.invariant in
-    record { filter = c.requires.filter; held_value = keeping_has at c.loop-k-test.true c.item_at-x.ensures; held_in_bounds = keeping_long at c.requires.filter.notes; owing_le_held = keeping_owing at c.requires.filter.notes }
+    record {
+      filter = c.requires.filter;
+      held_value = keeping_has at c.loop-k-test.true c.item_at-x.ensures;
+      held_in_bounds = keeping_long at c.requires.filter.notes;
+      owing_le_held = keeping_owing at c.requires.filter.notes;
+    }
 
 pub overflow_add-k-then-x : goal.overflow_add-k-then-x
 overflow_add-k-then-x c =

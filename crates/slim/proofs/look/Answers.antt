@@ -57,7 +57,10 @@ shape_of-next-then-most-c c =
 -- A stretch ends before an item whose page is new to a full filter.
 pub returns-then-most-c : goal.returns-then-most-c
 returns-then-most-c c =
-    record { looked = looking_full c.loop-k.invariant c.loop-k-test.true c.item_at-x.ensures c.find-j.ensures c.if-j-c.false c.if-most-c.true; within = search rules }
+    record {
+      looked = looking_full c.loop-k.invariant c.loop-k-test.true c.item_at-x.ensures c.find-j.ensures c.if-j-c.false c.if-most-c.true;
+      within = search rules;
+    }
 
 -- An item whose page is new may be added to a filter that is not full.
 pub add-requires : goal.add-requires

@@ -23,7 +23,14 @@ look-s-requires c =
 pub keep-t-requires : goal.keep-t-requires
 keep-t-requires c =
     let at = c.loop-i.invariant in
-    record { can_keep = slimming_keep at c.loop-i-test.true c.limit_of-most.ensures c.look-s.ensures.looked c.look-s.ensures.within c.look-s.auto.last c.look-s.auto.heads c.look-s.auto.next; filter = slimming_filter at c.loop-i-test.true c.limit_of-most.ensures c.look-s.ensures.looked c.look-s.ensures.within c.look-s.auto.last c.look-s.auto.heads c.look-s.auto.next }
+    record {
+      can_keep =
+          slimming_keep at c.loop-i-test.true c.limit_of-most.ensures c.look-s.ensures.looked c.look-s.ensures.within
+          c.look-s.auto.last c.look-s.auto.heads c.look-s.auto.next;
+      filter =
+          slimming_filter at c.loop-i-test.true c.limit_of-most.ensures c.look-s.ensures.looked c.look-s.ensures.within
+          c.look-s.auto.last c.look-s.auto.heads c.look-s.auto.next;
+    }
 
 -- The items of an epoch that ends may be mended,
 pub end_epoch-requires : goal.end_epoch-requires

@@ -22,4 +22,9 @@ header-requires c =
 pub returns : goal.returns
 returns c =
     let pre = c.requires in
-    record { value = reducing_header _ _ _ c.header_at-h.ensures.value c.mode_of.ensures c.slim-m.ensures.value; out_after = reducing_file _ _ _ _ pre c.header_at-h.ensures.value c.mode_of.ensures c.slim-m.ensures.value c.slim-m.ensures.out_after c.header.ensures }
+    record {
+      value = reducing_header _ _ _ c.header_at-h.ensures.value c.mode_of.ensures c.slim-m.ensures.value;
+      out_after =
+          reducing_file _ _ _ _ pre c.header_at-h.ensures.value c.mode_of.ensures c.slim-m.ensures.value
+          c.slim-m.ensures.out_after c.header.ensures;
+    }
