@@ -17,12 +17,14 @@ KIT = "/opt/rattle/rattle"
 TOKEN = re.compile(r"[^\s(){}\[\].,;:λ→←∷≡×⟦⟧\"`]+")
 # what a generated proof calls its parts: these names are Rattle's
 MADE = re.compile(r"^(invariant|decreases)-loop|^returns|^μ-|^(room|len|lend|shr|mut|ps|fs|ms|es)-[A-Za-z]+'?$")
-# lemmas and fields that would fall on the name of their function
-LEMMAS = {"is-item": "is_item_lem", "kind-by": "kind_by_lem", "next-with": "next_with_lem", "cache-least": "cache_least_lem", "cache-most": "cache_most_lem",
+# lemmas, fields and imports that would fall on the name of their function
+LEMMAS = {"is-item": "is_item_lem", "kind-by": "kind_by_lem", "next-with": "next_with_lem", "items-from": "items_from_lem", "kept-write": "kept_write_lem",
+          "last-place": "last_place_lem", "later-phase": "later_phase_lem", "cache-least": "cache_least_lem", "cache-most": "cache_most_lem",
           "filter-least": "filter_least_lem", "filter-most": "filter_most_lem", "items-least": "items_least_lem", "items-most": "items_most_lem",
-          "input-least": "input_least_lem", "input-most": "input_most_lem",
-          "items-from": "items_from_lem", "getD-items": "get_or-items", "getD-pages": "get_or-pages", "getD-place": "get_or-place",
-          "has-getD": "has-get_or", "frames-getD": "frames-get_or", "kept-write": "kept_write_lem", "last-place": "last_place_lem", "later-phase": "later_phase_lem"}
+          "input-least": "input_least_lem", "input-most": "input_most_lem"}
+# names after the kit's getD, which is get_or, and names that a file gives to what it imports
+BY_HAND = {"has_get_d": "has-get_or", "getD-items": "get_or-items", "getD-pages": "get_or-pages", "getD-place": "get_or-place", "frames-getD": "frames-get_or",
+           "Head-post": "head_post", "filter-size": "filter_size", "items-count": "items_count", "write-header": "write_header", "write-item": "write_item"}
 # words of the kit's lists, which a dash joins to another name
 WORDS = {"length", "take", "drop", "map", "append", "set", "get_or", "reverse", "number", "snoc", "replicate"}
 
@@ -93,6 +95,9 @@ def spellings():
     words = WORDS | {snake(n) for n in functions(p for p in antt if "/specs/" in p)}
     new = {}
     for name in used:
+        if name in LEMMAS or name in BY_HAND:
+            new[name] = LEMMAS.get(name) or BY_HAND[name]
+            continue
         if not re.match(r"^[a-zμ]", name) or MADE.match(name) or name in made:
             continue
         if "-" not in name.strip("-") and not re.search(r"[a-z0-9][A-Z]", name):
@@ -102,7 +107,6 @@ def spellings():
         parts = snake(name).split("-")
         joint = "-" if len(parts) == 2 and all(p in words for p in parts) else "_"
         to = joint.join(parts)
-        to = LEMMAS.get(name, to)
         if to != name:
             new[name] = to
     # two names that fall together, or one that falls on a name in use
