@@ -1,7 +1,7 @@
 #!/usr/bin/env python3
 """Respells this repository's own names as today's Rattle spells names, once, after port.py: words in snake case, a dash between two names.
 
-Run at the top of the repository, right after `python3 /opt/rattle/port/port.py`:
+Run at the top of the repository, right after the kit's port/port.py:
 
     python3 tools/respell.py
 
@@ -11,9 +11,16 @@ Names of src/, of types, of facts and of the kit stay. What it can't turn it pri
 import collections
 import os
 import re
+import subprocess
 import sys
 
-KIT = "/opt/rattle/rattle"
+
+def kit():
+    """The folder of the kit's libraries, beside the page that `rt doc` names."""
+    page = subprocess.run(["rt", "doc"], check=True, capture_output=True, text=True).stdout.strip()
+    return os.path.join(os.path.dirname(page), "rattle")
+
+
 TOKEN = re.compile(r"[^\s(){}\[\].,;:λ→←∷≡×⟦⟧\"`]+")
 # what a generated proof calls its parts: these names are Rattle's
 MADE = re.compile(r"^(invariant|decreases)-loop|^returns|^μ-|^(room|len|lend|shr|mut|ps|fs|ms|es)-[A-Za-z]+'?$")
@@ -76,7 +83,7 @@ def snake(name):
 
 def kit_tokens():
     tokens = set()
-    for folder, _, names in os.walk(KIT):
+    for folder, _, names in os.walk(kit()):
         for name in names:
             if name.endswith(".antt"):
                 tokens.update(TOKEN.findall(read(os.path.join(folder, name))))
