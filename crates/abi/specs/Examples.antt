@@ -8,15 +8,15 @@ use Rattle.trace.specs.Verdict.{first, ◌then◌}
 use Rattle.trace.specs.Check.{is_field, is_item, items_verdict, verdict, answer, checked}
 use Rattle.trace.specs.Examples.{file_T}
 use Rattle.replays.specs.Replay.{replay_verdict, replay_answer}
-use Rattle.abi.specs.Rows.{check_row, replay_row}
+use Rattle.abi.specs.Rows.{answer_row, replay_row}
 
 -- T whole, its first 22 bytes, and with item 2 at fault.
-checks : map (λ (f : List ℕ). check_row (checked f)) (file_T ∷ take 22 file_T ∷ set file_T 61 7 ∷ [])
+checks : map (λ (f : List ℕ). answer_row (checked f)) (file_T ∷ take 22 file_T ∷ set file_T 61 7 ∷ [])
     ≡ (0 ∷ 0 ∷ 0 ∷ 0 ∷ 0 ∷ 12 ∷ 12 ∷ 0 ∷ [])
     ∷ (1 ∷ 1 ∷ 0 ∷ 0 ∷ 0 ∷ 0 ∷ 0 ∷ 0 ∷ [])
     ∷ (4 ∷ 1 ∷ 2 ∷ 0 ∷ 0 ∷ 0 ∷ 0 ∷ 0 ∷ [])
     ∷ []
-unfolding check_row encode encode_header encode_items encode_item tag_of field bytes checked answer verdict first ◌then◌ items_verdict is_field is_item allowed header item number_at number
+unfolding answer_row encode encode_header encode_items encode_item tag_of field bytes checked answer verdict first ◌then◌ items_verdict is_field is_item allowed header item number_at number
 checks = refl
 
 -- A replay of 22 bytes that gives back its resident count, 3.

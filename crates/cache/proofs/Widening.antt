@@ -1,5 +1,5 @@
 -- A replay by the columns of the frames that can matter is the replay of the whole row. Assumes nothing.
-use Prim.Native.Nat.{ℕ, ◌≤◌, ◌<◌}
+use Prim.Native.Nat.{ℕ, ◌≤◌, ◌<◌, min}
 use mathlib.Core.Path.{◌≡◌, refl, sym, ap, ◌∙◌}
 use mathlib.Core.List.{List, ◌++◌}
 use mathlib.Core.Bool.{Bool}
@@ -17,14 +17,14 @@ use Rattle.frames.specs.Frames.{pages_of, marks_of, frames_of}
 use Rattle.frames.specs.declared.Frame.{Frame}
 use Rattle.frames.proofs.Columns.{frames-whole, pages-take}
 use Rattle.trace.specs.Layout.{items}
-use Rattle.trace.specs.Verdict.{first}
+use Rattle.std.specs.Prelude.{Result, Ok, Err}
+use Rattle.trace.specs.Verdict.{Verdict, Sound, Faulty, first}
 use Rattle.trace.specs.declared.Reason.{Reason}
-use Rattle.trace.specs.declared.Verdict.{Verdict}
-use Rattle.trace.specs.declared.Verdict.TheVariants.{Sound, Faulty}
 use Rattle.lru_cache.proofs.Room.{stays_fine}
 use Rattle.replays.specs.Replay.{bad_start, replay_tests, replay_verdict, replay_of, summary_of, replay_answer, frames_after, events_after}
 use Rattle.replays.proofs.Judging.{replay_then, Playable, sound_playable}
-use Rattle.replays.specs.declared.Replayed.{Replayed}
+use Rattle.replays.specs.declared.Summary.{Summary}
+use Rattle.replays.specs.declared.Unreplayed.{Unreplayed}
 use Rattle.replays.proofs.Fine.{starts_fine}
 use Rattle.cache.specs.Reach.{reached}
 
@@ -37,6 +37,12 @@ reach_short n h = rw (lt-ltb n cache_most h)
 pub reach_long : (n : ℕ) → cache_most ≤ n → cache_most ≡ reached n
 unfolding reached
 reach_long n h = rw (le-ltb n cache_most h)
+
+pub reach_min : (n : ℕ) → min n cache_most ≡ reached n
+reach_min n =
+    split (ltb n cache_most)
+    (λ e. let h = ltb-true n cache_most e in let m : min n cache_most ≡ n = omega arith in m ∙ reach_short n h)
+    (λ e. let h = ltb-false n cache_most e in let m : min n cache_most ≡ cache_most = omega arith in m ∙ reach_long n h)
 
 pub reach_within : (n : ℕ) → reached n ≤ n
 unfolding reached
@@ -79,8 +85,8 @@ module _ (f : List ℕ) (K : ℕ) (P : List ℕ) (m room : ℕ) where
   verdict_wide = replay_then f K (take (reached (length P)) P) m room ∙ rw tests_wide (sym (replay_then f K P m room))
 
 by_verdict : {C : Type 0} (v : Verdict) → (v ≡ Sound → C) → ((r : Reason) → v ≡ Faulty r → C) → C
-by_verdict Sound s t = s refl
-by_verdict (Faulty r) s t = t r refl
+by_verdict (Ok _) s t = s refl
+by_verdict (Err r) s t = t r refl
 
 -- A row over the front of a row, of which only the first n places were lent.
 over_within : {A : Type 0} (s l : List A) (n : ℕ) → length s ≤ n → n ≤ length l → over (over s (take n l)) l ≡ over s l
@@ -187,7 +193,7 @@ module _ (f : List ℕ) (K : ℕ) (ys : List Frame) (m : ℕ) (es : List ℕ) {n
       (λ r q. rw (same_verdict, q, events_after)))
 
   -- What a replay by the columns of the frames that can matter tells and leaves is what a replay of the row does.
-  pub by_columns : {ps P' E' : List ℕ} {ws W' : List Bool} {r : Replayed} {Z : List Frame}
+  pub by_columns : {ps P' E' : List ℕ} {ws W' : List Bool} {r : Result Summary Unreplayed} {Z : List Frame}
       → ps ≡ pages_of Y → ws ≡ marks_of Y
       → r ≡ replay_answer f K (frames_of ps ws) m (length es)
       → P' ≡ pages_of (frames_after f K (frames_of ps ws) m (length es))

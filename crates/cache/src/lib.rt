@@ -7,16 +7,16 @@ ghost use Rattle.cache.specs.Reach.{reached};
 
 use frames::Frame;
 use limits::Cache;
-use replays::Replayed;
+use replays::{Summary, Unreplayed};
 
 // How many frames of a row of n can matter: no more than the largest cache has.
 fn reach(n: usize) -> usize
     ensures { result ≡ reached n }
 {
-    if n < Cache::PLACES { n } else { Cache::PLACES }
+    n.min(Cache::PLACES)
 }
 
-// `replay`, by two columns that are lent. On a refusal they are unchanged, so that saving them changes nothing.
+// `replay`, by two plain columns that are lent, a form that the scope names. On a refusal they are unchanged, so that saving them changes nothing.
 fn replay_by(
     file: &[u8],
     k: u64,
@@ -25,7 +25,7 @@ fn replay_by(
     written: &mut [bool],
     resident: usize,
     events: &mut [u64],
-) -> Replayed
+) -> Result<Summary, Unreplayed>
     requires { (length pages.old ≡ reached (length frames.old)) × (length written.old ≡ length pages.old) }
     ensures { (result ≡ replay_answer file.now k frames.old resident (length events.old))
         × ((frames.new ≡ frames_after file.now k frames.old resident (length events.old))
@@ -45,7 +45,7 @@ pub fn replay(
     frames: &mut [Frame],
     resident: usize,
     events: &mut [u64],
-) -> Replayed
+) -> Result<Summary, Unreplayed>
     ensures value { result ≡ replay_answer file.now k frames.old resident (length events.old) }
     ensures frames_after { frames.new ≡ frames_after file.now k frames.old resident (length events.old) }
     ensures events_after { events.new ≡ events_after file.now k frames.old resident events.old }

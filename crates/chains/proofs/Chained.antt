@@ -4,8 +4,8 @@ use mathlib.Core.Path.{◌≡◌, refl, sym, ap, ◌∙◌}
 use mathlib.Core.Bool.{cond}
 use mathlib.Core.List.{List}
 use native.Mathlib.Omega.{arith}
-use lib.ListN.{length, get_or, set, length-set, get_or-eq_default, replicate, length-replicate, get_or-replicate}
-use lib.Seq.{get_or-set_same, get_or-set_other, ext_get_or}
+use lib.ListN.{length, get_or, set, get_or-eq_default, replicate, length-replicate, get_or-replicate}
+use lib.Seq.{get_or-set_same, get_or-set_other}
 use lib.Dec.{eqb, ltb}
 use borrow.Author.Tests.{ltb-true, ltb-false, eq-eqb, ne_eqb, eqb-false}
 use Rattle.pages.proofs.Choice.{split, same}
@@ -113,31 +113,6 @@ module _ {key m : ℕ → ℕ} {n k v : ℕ} where
     seeking_less some c z = omega (arith, z, c.next_are (e - 1) (seeking_within some), newest_most m (m (e - 1)) (e - 1))
 
 -- ---- heads that are cleared
-
--- The first i of the heads are 0.
-pub record Cleared (heads₀ heads : List ℕ) (i : ℕ) : Type 0 where
-  pub long : length heads ≡ length heads₀
-  pub within : i ≤ length heads
-  pub are : (v : ℕ) → v < i → get_or heads v 0 ≡ 0
-
-pub cleared_none : (heads : List ℕ) → Cleared heads heads 0
-cleared_none heads = record { long = refl; within = omega arith; are = λ v o. absurd (omega arith) }
-
-module _ {heads₀ heads : List ℕ} {i : ℕ} (c : Cleared heads₀ heads i) where
-  pub cleared_more : i < length heads → Cleared heads₀ (set heads i 0) (i + 1)
-  cleared_more o = record {
-    long = length-set heads i 0 ∙ c.long;
-    within = rw length-set (omega arith);
-    are = λ v l. split (eqb v i)
-        (λ e. rw (same v i e) (get_or-set_same heads i 0 0 o))
-        (λ e. let n = eqb-false v i e in get_or-set_other heads i v 0 0 n ∙ c.are v (omega arith));
-  }
-
-  pub cleared_all : length heads ≤ i → heads ≡ replicate (length heads₀) 0
-  cleared_all o =
-      let e : length heads ≡ length {A = ℕ} (replicate (length heads₀) 0) = c.long ∙ sym (length-replicate (length heads₀) 0) in
-      ext_get_or 0 heads (replicate (length heads₀) 0) e
-      (λ v l. c.are v (omega (arith, c.within)) ∙ sym (get_or-replicate {A = ℕ} (length heads₀) v 0 0 (omega (arith, c.long))))
 
 -- Heads that are made of zeros are low.
 pub low_zeros : (n : ℕ) → Low 0 (replicate n 0)

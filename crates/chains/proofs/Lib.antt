@@ -1,3 +1,4 @@
 pub mod Newest
 pub mod Chained
+pub mod Counted
 pub mod Once

@@ -1,9 +1,14 @@
 -- Chains: places in buckets, where the places of a bucket are chained from the last to the first. Assumes nothing.
-use Rattle.std.specs.Prelude.{ℕ, zero, suc, ◌+◌, ◌-◌, ◌*◌, ◌/◌, ◌%◌, ◌<◌, ◌≡◌, cond, List, length, get_or, set, eqb}
+use Rattle.std.specs.Prelude.{ℕ, zero, suc, Option, None, Some, ◌+◌, ◌-◌, ◌*◌, ◌/◌, ◌%◌, ◌<◌, ◌≡◌, cond, List, length, get_or, set, eqb}
 
 -- What stands at a place of a list, and beyond it 0.
 unfoldable pub at : List ℕ → ℕ → ℕ
 at l j = get_or l j 0
+
+-- A place that may be missing, counted from 1: 0 where there is none.
+unfoldable pub counted : Option ℕ → ℕ
+counted None = 0
+counted (Some j) = suc j
 
 -- One more than the last of the first i places j with m j = v, or 0 where there is none.
 unfoldable pub newest : (ℕ → ℕ) → ℕ → ℕ → ℕ
@@ -37,3 +42,7 @@ next_with base c v heads next = set next c (get_or heads v 0 - base)
 -- A number in which every bit of a page counts, from which its bucket is made. What is found does not depend on it.
 unfoldable pub mixed : ℕ → ℕ
 mixed p = p % 4294967296 * 1640531527 + p / 4294967296 * 1540483477
+
+-- The bucket of a page, of so many: of the lower 32 bits of the number that it is mixed to, the upper ones.
+abbrev pub bucket_in : ℕ → ℕ → ℕ
+bucket_in n p = mixed p / (4294967296 / n) % n

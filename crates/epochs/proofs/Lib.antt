@@ -8,3 +8,4 @@ pub mod Order
 pub mod Phases
 pub mod Plain
 pub mod Through
+pub mod Once

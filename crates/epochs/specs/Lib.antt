@@ -1,3 +1,4 @@
+pub mod Modes
 pub mod Epochs
 pub mod Keep
 pub mod English

@@ -11,7 +11,7 @@ use Rattle.trace.specs.Layout.{header, items}
 use Rattle.trace.specs.Rules.{Rising}
 use Rattle.trace.specs.Promises.{IsFile}
 use Rattle.trace.specs.declared.Item.{Item}
-use Rattle.trace.specs.declared.Verdict.TheVariants.{Sound}
+use Rattle.trace.specs.Verdict.{Sound}
 use Rattle.trace.proofs.Accepted.{accepted_header, accepted_count, accepted_facts}
 use Rattle.trace.proofs.Append.{rising_earlier}
 use Rattle.trace.proofs.Checking.{accepted_verdict}
@@ -22,7 +22,7 @@ use Rattle.epochs.specs.declared.Mode.{Mode}
 use Rattle.epochs.proofs.Greedy.{epochs_trace}
 use Rattle.epochs.proofs.Order.{reduce-length}
 use Rattle.slim.specs.Reduce.{mode_of, kept_of, reduced_header, reduced_file, reduce_verdict}
-use Rattle.slim.proofs.Reducing.{reducible_sound, reduce-written, reduce_file}
+use Rattle.slim.proofs.Reducing.{reducible_sound, answer_is, out_is}
 use Rattle.slim.proofs.Accepted.{writes_reduced}
 use Rattle.join.specs.Trees.{items_of_all, largest, total, header_of_all}
 use Rattle.faithful.specs.Parts.{Part, recorded, reduced, Sizes}
@@ -49,8 +49,8 @@ module _ (p : Portion) (a : IsPortion p) where
   reduces : Reduces p
   unfolding short
   reduces = record {
-    answers = λ out fits. sym (reduce-written p.file p.mode p.size out refl (reducible (length out) fits) refl);
-    writes = λ out fits. sym (reduce_file p.file p.mode p.size out refl (reducible (length out) fits) refl);
+    answers = λ out fits. sym (answer_is p.file p.mode p.size out (reducible (length out) fits));
+    writes = λ out fits. sym (out_is p.file p.mode p.size out (reducible (length out) fits));
   }
 
   -- What is written is a file, with the reduced header and the items that are kept.

@@ -1,5 +1,5 @@
 -- The paper's worked examples, one list and one theorem, and some with writes, by computation. Assumes nothing.
-use Rattle.std.specs.Prelude.{ℕ, ◌*◌, ◌≡◌, refl, true, false, List, [], ◌∷◌, map, length, take, drop, replicate}
+use Rattle.std.specs.Prelude.{ℕ, ◌*◌, ◌≡◌, refl, true, false, List, [], ◌∷◌, map, length, take, drop, replicate, Result, Ok, Err}
 use Rattle.pages.specs.Rows.{flat, over}
 use Rattle.pages.specs.Pages.{has, add}
 use Rattle.frames.specs.Frames.{framed, blank, dirty, taken}
@@ -13,19 +13,17 @@ use Rattle.trace.specs.Verdict as verdicts
 use Rattle.trace.specs.Check.{is_field, is_item, items_verdict, verdict}
 use Rattle.trace.specs.Examples.{◌at◌, ◌writes◌, top, T, file_T}
 use Rattle.trace.specs.declared.Item.{Item}
+use Rattle.trace.specs.declared.Header.{Header}
+use Rattle.trace.specs.declared.Refusal.{Refusal}
 use Rattle.epochs.specs.Epochs.{pages, cut, epochs}
 use Rattle.epochs.specs.Keep.{is_first, is_last, phase, keeps, settle, marked, reduce}
 use Rattle.slim.specs.Reduce.{is_mode, mode_of, kept_of, reduced_header, reduced_file, falls, reduce_verdict, reduce_answer}
-use Rattle.slim.specs.declared.Reduced.{Reduced}
-use Rattle.slim.specs.declared.Reduced.TheVariants as reductions
 use Rattle.join.specs.Join.{joined_kind, joined_header, joined_file, meets_falling, too_large, judged, join_answer}
-use Rattle.join.specs.declared.Joined.{Joined}
-use Rattle.join.specs.declared.Joined.TheVariants as joins
 use Rattle.lru_cache.specs.Lru.{Event, hit, fetch, step, ◌then◌, replay, word, cost, words}
 use Rattle.lru_cache.specs.Tally.{one_of, is_fetch, is_eviction, tallied, tally, per_million}
 use Rattle.replays.specs.Replay.{twice, bad_start, replay_verdict, replay_of, summary_of, replay_answer, frames_after, events_after}
-use Rattle.replays.specs.declared.Replayed.{Replayed}
-use Rattle.replays.specs.declared.Replayed.TheVariants as replays
+use Rattle.replays.specs.declared.Summary.{Summary}
+use Rattle.replays.specs.declared.Unreplayed.{Unreplayed}
 use Rattle.faithful.specs.Corollaries.{whole_file as file, second_transfers, told_transfers}
 
 -- One example of the paper: what the definitions compute, and what the paper says.
@@ -79,28 +77,20 @@ pages_of f = map (λ (i : Item). i.page) (items f)
 abbrev pub size : List ℕ → List ℕ
 size f = length f ∷ []
 
--- The answer of a reduction: 0 and the four header values, or the refusal, whose number is not 0.
-abbrev pub reduction : Reduced → List ℕ
-reduction a =
+-- The answer of a reduction or of a join: 0 and the four header values, or the refusal, whose number is not 0.
+abbrev pub answered : Result Header Refusal → List ℕ
+answered a =
     elim a [
-      | reductions.Written h ↦ 0 ∷ h.kind ∷ h.filter ∷ h.references ∷ h.items ∷ []
-      | reductions.Refused r ↦ r.number ∷ r.trace ∷ r.item ∷ []
-    ]
-
--- And of a join.
-abbrev pub joining : Joined → List ℕ
-joining a =
-    elim a [
-      | joins.Written h ↦ 0 ∷ h.kind ∷ h.filter ∷ h.references ∷ h.items ∷ []
-      | joins.Refused r ↦ r.number ∷ r.trace ∷ r.item ∷ []
+      | Ok h ↦ 0 ∷ h.kind ∷ h.filter ∷ h.references ∷ h.items ∷ []
+      | Err r ↦ r.number ∷ r.trace ∷ r.item ∷ []
     ]
 
 -- The answer of a replay: 0 and items, fetches, evictions, resident pages and fetches per million; or the refusal, whose number is not 0, and the resident count.
-abbrev pub told : Replayed → List ℕ
+abbrev pub told : Result Summary Unreplayed → List ℕ
 told a =
     elim a [
-      | replays.Done s ↦ 0 ∷ s.items ∷ s.fetches ∷ s.evictions ∷ s.resident ∷ s.permillion ∷ []
-      | replays.Refused r n ↦ r.number ∷ r.trace ∷ r.item ∷ n ∷ []
+      | Ok s ↦ 0 ∷ s.items ∷ s.fetches ∷ s.evictions ∷ s.resident ∷ s.permillion ∷ []
+      | Err e ↦ e.refusal.number ∷ e.refusal.trace ∷ e.refusal.item ∷ e.resident ∷ []
     ]
 
 -- An empty cache with room for K pages, and 48 places for events, four for each item of T.
@@ -130,7 +120,7 @@ abbrev pub examples : List Example
 examples =
     -- "Demand, B = 2 keeps times 10, 40, 50, 60, 80, 100, 110, 120; the file is 175 bytes."
     (times (demand 2 file_T) says 10 ∷ 40 ∷ 50 ∷ 60 ∷ 80 ∷ 100 ∷ 110 ∷ 120 ∷ [])
-    ∷ (reduction (reduce_answer file_T 2 2 (length file_T)) says 0 ∷ 2 ∷ 2 ∷ 12 ∷ 8 ∷ [])
+    ∷ (answered (reduce_answer file_T 2 2 (length file_T)) says 0 ∷ 2 ∷ 2 ∷ 12 ∷ 8 ∷ [])
     ∷ (size (demand 2 file_T) says 175 ∷ [])
     -- "FastSlim, B = 2 keeps 10, 30, 40, 50, 60, 70, 80, 100, 110, 120."
     ∷ (times (fastslim 2 file_T) says 10 ∷ 30 ∷ 40 ∷ 50 ∷ 60 ∷ 70 ∷ 80 ∷ 100 ∷ 110 ∷ 120 ∷ [])
@@ -156,9 +146,9 @@ examples =
     ∷ (fetched_at 1 file_T says 10 ∷ 40 ∷ 50 ∷ 60 ∷ 80 ∷ 90 ∷ 110 ∷ [])
     ∷ (fetched_at 1 (demand 2 file_T) says 10 ∷ 40 ∷ 50 ∷ 60 ∷ 80 ∷ 100 ∷ 110 ∷ [])
     -- "T cut after time 70, each part reduced by demand with B = 2: 5 and 5 items; the join replays at K = 2 with the same five fetch lines, per million 500000."
-    ∷ (reduction (reduce_answer before 2 2 (length before)) says 0 ∷ 2 ∷ 2 ∷ 7 ∷ 5 ∷ [])
-    ∷ (reduction (reduce_answer after 2 2 (length after)) says 0 ∷ 2 ∷ 2 ∷ 5 ∷ 5 ∷ [])
-    ∷ (joining (join_answer (demand 2 before) (demand 2 after) (length rejoined)) says 0 ∷ 2 ∷ 2 ∷ 12 ∷ 10 ∷ [])
+    ∷ (answered (reduce_answer before 2 2 (length before)) says 0 ∷ 2 ∷ 2 ∷ 7 ∷ 5 ∷ [])
+    ∷ (answered (reduce_answer after 2 2 (length after)) says 0 ∷ 2 ∷ 2 ∷ 5 ∷ 5 ∷ [])
+    ∷ (answered (join_answer (demand 2 before) (demand 2 after) (length rejoined)) says 0 ∷ 2 ∷ 2 ∷ 12 ∷ 10 ∷ [])
     ∷ (fetches 2 rejoined says
     10 ∷ 1 ∷ 0 ∷ 0 ∷ 40 ∷ 2 ∷ 0 ∷ 0 ∷ 60 ∷ 3 ∷ 2 ∷ 1 ∷ 80 ∷ 4 ∷ 1 ∷ 1 ∷ 110 ∷ 1 ∷ 4 ∷ 1 ∷ [])
     ∷ (answer 2 rejoined says 0 ∷ 10 ∷ 5 ∷ 3 ∷ 2 ∷ 500000 ∷ [])
@@ -174,7 +164,7 @@ examples =
     ∷ (times (fastslim 2 ties) says 5 ∷ 5 ∷ 5 ∷ [])
     -- "An empty whole trace is 23 bytes, reduces to 23 bytes and, from an empty cache, replays to 0 everywhere."
     ∷ (size (file []) says 23 ∷ [])
-    ∷ (reduction (reduce_answer (file []) 2 2 (length (file []))) says 0 ∷ 2 ∷ 2 ∷ 0 ∷ 0 ∷ [])
+    ∷ (answered (reduce_answer (file []) 2 2 (length (file []))) says 0 ∷ 2 ∷ 2 ∷ 0 ∷ 0 ∷ [])
     ∷ (size (demand 2 (file [])) says 23 ∷ [])
     ∷ (size (fastslim 2 (file [])) says 23 ∷ [])
     ∷ (answer 2 (file []) says 0 ∷ 0 ∷ 0 ∷ 0 ∷ 0 ∷ 0 ∷ [])

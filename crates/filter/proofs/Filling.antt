@@ -12,11 +12,15 @@ use Rattle.pages.specs.Pages.{has, add}
 use Rattle.pages.proofs.Added.{add_new}
 use Rattle.trace.specs.Layout.{item_at}
 use Rattle.trace.specs.declared.Item.{Item}
-use Rattle.chains.specs.Chains.{at, CanPush, heads_with, next_with}
+use Rattle.chains.specs.Chains.{at, heads_with, next_with}
 use Rattle.chains.proofs.Chained.{Low, chained_none, chained_low, chained_more, low_zeros}
-use Rattle.filter.specs.Filter.{pages_of, pages_in, buckets, bucket_of, bucket_at, Holds, IsFilter, CanAdd, fits_above, empty_base, empty_heads}
+use Rattle.filter.specs.Filter.{pages_of, pages_in, places, buckets, bucket_of, bucket_at, Holds, IsFilter, CanNote, CanAdd, fits_above, empty_base, empty_heads}
 use Rattle.filter.proofs.Noting.{notes_long, notes_again, notes_more}
 use Rattle.filter.proofs.Finding.{bucket_below}
+
+-- A filter holds the pages of what it notes.
+pub holds_in : {file last : List ℕ} {held base : ℕ} {heads next l : List ℕ} → Holds file last held base heads next l → IsFilter file last held base heads next
+holds_in f = rw f.notes.pages_are f
 
 -- No page: the heads may say anything up to base.
 pub holds_none : (file last : List ℕ) {base : ℕ} {heads next : List ℕ} → Low base heads → buckets ≤ length heads → length last ≤ length next
@@ -30,31 +34,44 @@ holds_none file last {next = next} w h n s = record {
   small = s;
 }
 
-module _ {file last : List ℕ} {held base : ℕ} {heads next l : List ℕ} (f : Holds file last held base heads next l) where
-  -- It is a filter.
-  pub holds_in : IsFilter file last held base heads next
-  holds_in = rw f.notes.pages_are f
+-- A filter that is made.
+pub holds_first : (file last : List ℕ) → length last ≡ places → {heads next : List ℕ} → heads ≡ replicate buckets 0 → next ≡ replicate places 0
+    → IsFilter file last 0 0 heads next
+unfolding pages_of
+holds_first file last q h n =
+    let long : buckets ≤ length {A = ℕ} (replicate buckets 0) = rw length-replicate (omega arith) in
+    let room : length last ≤ length {A = ℕ} (replicate places 0) = rw length-replicate (omega arith) in
+    rw (h, n) (holds_none file last (low_zeros buckets) long room (omega arith))
 
+module _ {file last : List ℕ} {held base : ℕ} {heads next l : List ℕ} (f : Holds file last held base heads next l) where
   -- What the heads say is no more than base and the number of pages.
   pub holds_low : Low (base + held) heads
   holds_low = chained_low f.chained
 
   -- The filter is emptied above what the heads say,
-  pub emptied_above : base + held + length last ≤ 65535
-      → (base + held ≡ empty_base base held (length last)) × ((heads ≡ empty_heads base held (length last) heads) × Holds file last 0 (base + held) heads next [])
+  pub emptied_above : {n : ℕ} → n ≡ length last → base + held + n ≤ 65535 → IsFilter file last 0 (base + held) heads next
+  unfolding pages_of
+  emptied_above e s = holds_none file last holds_low f.heads_long f.next_long (rw (← e) s)
+
+  pub above_is : {n : ℕ} → n ≡ length last → base + held + n ≤ 65535 → (base + held ≡ empty_base base held (length last)) × (heads ≡ empty_heads base held (length last) heads)
   unfolding fits_above empty_base empty_heads
-  emptied_above s =
+  above_is q s =
       let t = lt-ltb (base + held + length last) 65536 (omega arith) in
-      (rw t, (rw t, holds_none file last holds_low f.heads_long f.next_long s))
+      (rw t, rw t)
 
   -- or with heads that are cleared.
-  pub emptied_clear : 65535 < base + held + length last → {heads' : List ℕ} → heads' ≡ replicate (length heads) 0
-      → (0 ≡ empty_base base held (length last)) × ((heads' ≡ empty_heads base held (length last) heads) × Holds file last 0 0 heads' next [])
-  unfolding fits_above empty_base empty_heads
-  emptied_clear s e =
-      let t = le-ltb (base + held + length last) 65536 (omega arith) in
+  pub emptied_clear : {heads' next' : List ℕ} → heads' ≡ replicate (length heads) 0 → next' ≡ next → IsFilter file last 0 0 heads' next'
+  unfolding pages_of
+  emptied_clear e n =
       let w : buckets ≤ length {A = ℕ} (replicate (length heads) 0) = rw length-replicate f.heads_long in
-      (rw t, (rw t e, rw e (holds_none file last (low_zeros (length heads)) w f.next_long (omega (arith, f.small)))))
+      rw (e, n) (holds_none file last (low_zeros (length heads)) w f.next_long (omega (arith, f.small)))
+
+  pub clear_is : {n : ℕ} → n ≡ length last → 65535 < base + held + n → {heads' : List ℕ} → heads' ≡ replicate (length heads) 0
+      → (0 ≡ empty_base base held (length last)) × (heads' ≡ empty_heads base held (length last) heads)
+  unfolding fits_above empty_base empty_heads
+  clear_is q s e =
+      let t = le-ltb (base + held + length last) 65536 (omega arith) in
+      (rw t, rw t e)
 
   module _ (k : ℕ) (readable : 23 + 19 * (k + 1) ≤ length file) where
     -- An item of a page that is held is noted in place of the one before it.
@@ -88,18 +105,15 @@ module _ {file last : List ℕ} {held base : ℕ} {heads next l : List ℕ} (f :
         small = rw length-set f.small;
       }
 
--- ---- as `add` does it
+-- ---- as the code does it
 
-module _ {file last : List ℕ} {held base : ℕ} {heads next : List ℕ} {k : ℕ} (c : CanAdd file last held base heads next k)
+-- An item is noted anew.
+pub note_holds : {file last : List ℕ} {held base : ℕ} {heads next : List ℕ} → IsFilter file last held base heads next → {j k : ℕ} → CanNote file last held j k
+    → IsFilter file (set last j k) held base heads next
+note_holds f {j} {k} c = holds_in (holds_again f k c.readable j c.within c.page)
+
+module _ {file last : List ℕ} {held base : ℕ} {heads next : List ℕ} (f : IsFilter file last held base heads next) {k : ℕ} (c : CanAdd file last held k)
     {x : Item} (e : x ≡ item_at file k) {v : ℕ} (q : v ≡ bucket_of x.page) where
-  -- The place can be pushed.
-  pub add_push : CanPush base held v heads next
-  add_push =
-      let f = c.filter in
-      record { bucket = rw q (omega (arith, bucket_below x.page, f.heads_long)); room = omega (arith, c.room, f.next_long); small = omega (arith, c.room, f.small) }
-
-  pub add_holds : {last' heads' next' : List ℕ} → last' ≡ set last held k → heads' ≡ heads_with base held v heads → next' ≡ next_with base held v heads next
-      → (last' ≡ set last held k) × ((heads' ≡ heads_with base held (bucket_of (item_at file k).page) heads)
-      × ((next' ≡ next_with base held (bucket_of (item_at file k).page) heads next)
-      × Holds file last' (held + 1) base heads' next' (add (item_at file k).page (pages_in file last held))))
-  add_holds a h n = (a, (rw (q, e) at h, (rw (q, e) at n, rw (a, h, n, q, e) (holds_more c.filter k c.readable c.room c.new))))
+  pub add_holds : {heads' next' : List ℕ} → heads' ≡ heads_with base held v heads → next' ≡ next_with base held v heads next
+      → Holds file (set last held k) (held + 1) base heads' next' (add (item_at file k).page (pages_in file last held))
+  add_holds h n = rw (h, n, q, e) (holds_more f k c.readable c.room c.new)

@@ -1,34 +1,78 @@
 -- The searches in a filter: along a chain, for a page and for an item, and by all places in turn. Assumes nothing.
-use Prim.Native.Nat.{ℕ, suc, ◌+◌, ◌-◌, ◌/◌, ◌%◌, ◌≤◌, ◌<◌}
+use Prim.Native.Nat.{ℕ, suc, min, ◌+◌, ◌-◌, ◌≤◌, ◌<◌}
 use mathlib.Core.Path.{◌≡◌, refl, sym, ap, ◌∙◌}
-use mathlib.Core.Bool.{true, false, ◌||◌, or-false, or-true}
-use mathlib.Core.List.{List}
+use mathlib.Core.Bool.{true, false, false≢true, ◌||◌, or-false, or-true}
+use mathlib.Core.List.{List, [], ◌∷◌}
+use Rattle.std.specs.Prelude.{Option, Some, None, fold, filter, nat_le, unwrap_or}
+use Rattle.std.specs.List.{reduce}
 use native.Mathlib.Omega.{arith}
 use lib.ListN.{length, get_or, take}
 use lib.Dec.{eqb, ltb}
-use borrow.Author.Tests.{ltb-true, lt-ltb, le-ltb, eq-eqb, ne_eqb, eqb-false}
+use borrow.Author.Tests.{ltb-true, ltb-false, lt-ltb, le-ltb, leb-true, leb-false, eq-eqb, ne_eqb, eqb-false}
 use Rattle.pages.specs.Pages.{has, place}
-use Rattle.pages.proofs.Choice.{split, same}
-use Rattle.pages.proofs.Rows.{take_next}
-use Rattle.pages.proofs.Added.{has_join}
+use Rattle.pages.proofs.Choice.{split, same, eqb_self}
 use Rattle.pages.proofs.Table.{place_most, has_within, get_or-place}
 use Rattle.trace.specs.Layout.{item_at}
 use Rattle.trace.specs.declared.Item.{Item}
-use Rattle.chains.specs.Chains.{at, newest, mixed}
+use Rattle.chains.specs.Chains.{at, counted, newest, bucket_in}
 use Rattle.chains.proofs.Newest.{has-newest, newest_none, newest-place}
 use Rattle.chains.proofs.Chained.{Seeking, seeking_none, seeking_within, seeking_less, seeking_end, seeking_here, seeking_more}
-use Rattle.filter.specs.Filter.{Stands, Notes, buckets, bucket_of, bucket_at, Holds, FirstNoted}
-use Rattle.filter.proofs.Noting.{notes_long, notes_stands, notes_page, notes_place, notes_item, notes_told}
+use Rattle.filter.specs.Filter.{Notes, buckets, bucket_of, bucket_at, Holds, FirstNoted, first_from, among, found}
+use Rattle.filter.proofs.Noting.{notes_long, notes_page, notes_place, notes_item, notes_told}
 
 -- A bucket is one of the heads'.
 pub bucket_below : (p : ℕ) → bucket_of p < buckets
 unfolding bucket_of
 bucket_below p = omega arith
 
--- A page's bucket, as it is computed.
-pub bucket_is : (p : ℕ) {z : ℕ} → z ≡ mixed p → z / 4194304 % 1024 ≡ bucket_of p
+-- A page's bucket is that of so many.
+pub bucket_is : (p : ℕ) {b : ℕ} → b ≡ bucket_in buckets p → b ≡ bucket_of p
 unfolding bucket_of
-bucket_is p q = rw q
+bucket_is p q = q
+
+-- A place is one of those there are, or none.
+pub among_some : {j n : ℕ} → j < n → Some j ≡ among j n
+unfolding among
+among_some {j} {n} h = rw (lt-ltb j n h)
+
+pub among_none : (n : ℕ) → None ≡ among n n
+unfolding among
+among_none n = rw (le-ltb n n (omega arith))
+
+-- A page is found, or none.
+pub found_here : {j : ℕ} (p : ℕ) (l : List ℕ) → j ≡ place p l → j < length l → Some j ≡ found p l
+unfolding found among
+found_here {j} p l e h = rw (← e, lt-ltb j (length l) h)
+
+pub found_none : (p : ℕ) (l : List ℕ) → length l ≡ place p l → None ≡ found p l
+unfolding found among
+found_none p l e = rw (← e, le-ltb (length l) (length l) (omega arith))
+
+pub among_place : {j i n : ℕ} → Some j ≡ among i n → (j ≡ i) × (j < n)
+unfolding among
+among_place {j} {i} {n} e =
+    split (ltb i n)
+    (λ t. let q : Some j ≡ Some i = rw t at e in
+    let z : j ≡ i = cc in
+    (z, omega (arith, ltb-true i n t)))
+    (λ t. absurd (let q : Some j ≡ None = rw t at e in cc))
+
+-- What is found stands in the list, and what is not found nowhere.
+pub found_place : {j : ℕ} (p : ℕ) (l : List ℕ) → Some j ≡ found p l → (j ≡ place p l) × (j < length l)
+unfolding found
+found_place p l e = among_place e
+
+pub found_nowhere : (p : ℕ) (l : List ℕ) → None ≡ found p l → length l ≤ place p l
+unfolding found among
+found_nowhere p l e =
+    split (ltb (place p l) (length l))
+    (λ t. absurd (let q : ◌≡◌ {A = Option ℕ} None (Some (place p l)) = rw t at e in cc))
+    (λ t. ltb-false (place p l) (length l) t)
+
+-- No place is counted 0.
+pub counted_none : {r : Option ℕ} → r ≡ None → counted r ≡ 0
+unfolding counted
+counted_none p = rw p
 
 -- ---- by all places in turn
 
@@ -45,9 +89,6 @@ pub record Scanning (held : ℕ) (l : List ℕ) (p i : ℕ) : Type 0 where
   pub passed : i ≤ place p l
 
 module _ {file last : List ℕ} {held : ℕ} {l : List ℕ} (n : Notes file last held l) {p : ℕ} where
-  pub scan_none : Scanning held l p 0
-  scan_none = record { within = omega arith; passed = omega arith }
-
   -- It is passed at a place that has another page.
   other : {i q : ℕ} → i ≤ place p l → i < held → q ≡ (item_at file (get_or last i 0)).page → (q ≡ p → ⊥) → i + 1 ≤ place p l
   other {i} {q} s h r t =
@@ -58,13 +99,16 @@ module _ {file last : List ℕ} {held : ℕ} {l : List ℕ} (n : Notes file last
       absurd (t (r ∙ sym (notes_page n i h) ∙ rw z at (get_or-place p l (has_within p l w)))))
       (λ e. let d = eqb-false (place p l) i e in omega arith)
 
+  pub scan_here : (i : ℕ) → i < held → {q : ℕ} → q ≡ (item_at file (get_or last i 0)).page → q ≡ p → Some i ≡ found p l
+  scan_here i h r e = found_here p l (notes_place n p i h r e) (rw (notes_long n) h)
+
   module _ {i : ℕ} (s : Scanning held l p i) where
-    pub scan_all : held ≤ i → held ≡ place p l
-    scan_all h = omega (arith, s.passed, place_most p l, notes_long n)
+    pub scan_all : held ≤ i → None ≡ found p l
+    scan_all h = found_none p l (omega (arith, s.passed, place_most p l, notes_long n))
 
     -- One of the next four places has the page.
-    pub scan_found : (d : ℕ) → ltb d 4 ≡ true → i + 4 ≤ held → {q : ℕ} → q ≡ (item_at file (get_or last (i + d) 0)).page → q ≡ p → i + d ≡ place p l
-    scan_found d t h r e = notes_place n p (i + d) (ahead_by i d h t) r e
+    pub scan_found : (d : ℕ) → ltb d 4 ≡ true → i + 4 ≤ held → {q : ℕ} → q ≡ (item_at file (get_or last (i + d) 0)).page → q ≡ p → Some (i + d) ≡ found p l
+    scan_found d t h r e = scan_here (i + d) (ahead_by i d h t) r e
 
     pub scan_more : i < held → {q : ℕ} → q ≡ (item_at file (get_or last i 0)).page → (q ≡ p → ⊥) → Scanning held l p (i + 1)
     scan_more h r t = record { within = omega arith; passed = other s.passed h r t }
@@ -82,27 +126,21 @@ module _ {file last : List ℕ} {held : ℕ} {l : List ℕ} (n : Notes file last
 
 -- ---- along a chain
 
+-- What stands before a number more.
+before : (j : ℕ) → suc j - 1 ≡ j
+before j = omega arith
+
 module _ {file last : List ℕ} {held base : ℕ} {heads next l : List ℕ} (f : Holds file last held base heads next l) where
-  -- The heads have a page's bucket.
-  pub find_bucket : (p : ℕ) → bucket_of p < length heads
-  find_bucket p = omega (arith, bucket_below p, f.heads_long)
-
   module _ {key : ℕ → ℕ} {k v : ℕ} where
-    pub find_none : {b e : ℕ} → b ≡ v → e ≡ get_or heads b 0 - base → Seeking key (bucket_at l) held k v e
-    find_none q e = seeking_none f.chained (rw q at e)
+    pub find_none : {e : ℕ} → e ≡ get_or heads v 0 - base → Seeking key (bucket_at l) held k v e
+    find_none e = seeking_none f.chained e
 
-    module _ {e : ℕ} (s : Seeking key (bucket_at l) held k v e) (some : 0 < e) where
-      pub find_within : e - 1 < length last
-      find_within = omega (arith, seeking_within s some, f.notes.within)
+    module _ {e : ℕ} (s : Seeking key (bucket_at l) held k v e) {j : ℕ} (a : e ≡ suc j) where
+      pub find_held : j < held
+      find_held = rw (a, before) at (seeking_within s (omega arith))
 
-      pub find_stands : Stands file last (e - 1)
-      find_stands = notes_stands f.notes (e - 1) (seeking_within s some)
-
-      pub find_next : e - 1 < length next
-      find_next = omega (arith, seeking_within s some, f.next_long, f.notes.within)
-
-      pub find_less : {d : ℕ} → d ≡ get_or next (e - 1) 0 → d < e
-      find_less z = seeking_less s some f.chained z
+      pub find_less : {d : ℕ} → d ≡ get_or next j 0 → d < e
+      find_less z = seeking_less s (omega arith) f.chained (rw (a, before) z)
 
   -- ---- for a page
 
@@ -114,26 +152,32 @@ module _ {file last : List ℕ} {held base : ℕ} {heads next l : List ℕ} (f :
     long : length l ≡ held
     long = notes_long f.notes
 
-    pub find_end : e ≤ 0 → held ≡ place p l
-    find_end z = sym long ∙ newest_none p l (rw long (seeking_end s apart z))
+    pub find_end : e ≡ 0 → None ≡ found p l
+    find_end z = found_none p l (newest_none p l (rw long (seeking_end s apart (omega arith))))
 
-    module _ (some : 0 < e) {q : ℕ} (r : q ≡ (item_at file (get_or last (e - 1) 0)).page) where
-      at_is : at l (e - 1) ≡ q
+    module _ {j : ℕ} (a : e ≡ suc j) {q : ℕ} (r : q ≡ (item_at file (get_or last j 0)).page) where
+      within : j < held
+      within = find_held s a
+
+      at_is : at l j ≡ q
       unfolding at
-      at_is = notes_page f.notes (e - 1) (seeking_within s some) ∙ sym r
+      at_is = notes_page f.notes j within ∙ sym r
 
-      pub find_here : q ≡ p → e - 1 ≡ place p l
-      find_here t = newest-place p l f.notes.once (e - 1) (rw long (seeking_here s apart some (at_is ∙ t)))
+      pub find_here : q ≡ p → Some j ≡ found p l
+      find_here t =
+          let z : at l (e - 1) ≡ p = rw (a, before) (at_is ∙ t) in
+          let w : suc (e - 1) ≡ suc j = rw (a, before) in
+          found_here p l (newest-place p l f.notes.once j (rw long (seeking_here s apart (omega arith) z ∙ w))) (rw long within)
 
-      pub find_more : (q ≡ p → ⊥) → {d : ℕ} → d ≡ get_or next (e - 1) 0 → Seeking (at l) (bucket_at l) held p (bucket_of p) d
-      find_more t z = seeking_more s apart some (λ y. t (sym at_is ∙ y)) f.chained z
+      pub find_more : (q ≡ p → ⊥) → {d : ℕ} → d ≡ get_or next j 0 → Seeking (at l) (bucket_at l) held p (bucket_of p) d
+      find_more t z = seeking_more s apart (omega arith) (λ y. t (sym at_is ∙ (rw (a, before) at y))) f.chained (rw (a, before) z)
 
   -- ---- for an item
 
   -- It begins at the bucket of the item's page.
-  pub noted_none : (k : ℕ) {x : Item} {b e : ℕ} → x ≡ item_at file k → b ≡ bucket_of x.page → e ≡ get_or heads b 0 - base
+  pub noted_none : (k : ℕ) {x : Item} {e : ℕ} → x ≡ item_at file k → e ≡ get_or heads (bucket_of x.page) 0 - base
       → Seeking (at last) (bucket_at l) held k (bucket_of (item_at file k).page) e
-  noted_none k q r e = find_none (rw q at r) e
+  noted_none k q e = find_none (rw q at e)
 
   module _ {k e : ℕ} (s : Seeking (at last) (bucket_at l) held k (bucket_of (item_at file k).page) e) where
     shared : (j : ℕ) → j < held → at last j ≡ k → bucket_at l j ≡ bucket_of (item_at file k).page
@@ -144,96 +188,121 @@ module _ {file last : List ℕ} {held base : ℕ} {heads next l : List ℕ} (f :
     listed = has-newest k last held f.notes.within
 
     -- The chain is passed: item k is not noted.
-    pub noted_end : e ≤ 0 → FirstNoted (take held last) k (k + 1)
+    pub noted_end : e ≡ 0 → FirstNoted (take held last) k (k + 1)
     noted_end z =
-        let n : has k (take held last) ≡ false = listed ∙ rw (seeking_end s shared z) (le-ltb 0 0 (omega arith)) in
+        let n : has k (take held last) ≡ false = listed ∙ rw (seeking_end s shared (omega arith)) (le-ltb 0 0 (omega arith)) in
         record { from = omega arith; none = λ i a b. (let q : k ≡ i = omega arith in rw q at n); here = λ q. absurd (omega arith) }
 
-    module _ (some : 0 < e) {i : ℕ} (r : i ≡ get_or last (e - 1) 0) where
-      here : at last (e - 1) ≡ i
-      unfolding at
-      here = sym r
-
+    module _ {j : ℕ} (a : e ≡ suc j) where
       -- It is noted.
-      pub noted_here : i ≡ k → FirstNoted (take held last) k k
-      noted_here t = record {
-        from = omega arith;
-        none = λ j a b. absurd (omega arith);
-        here = λ q. listed ∙ rw (seeking_here s shared some (here ∙ t)) (lt-ltb 0 (suc (e - 1)) (omega arith));
-      }
+      pub noted_here : get_or last j 0 ≡ k → FirstNoted (take held last) k k
+      unfolding at
+      noted_here t =
+          let z : at last (e - 1) ≡ k = rw (a, before) t in
+          record {
+            from = omega arith;
+            none = λ i a b. absurd (omega arith);
+            here = λ q. listed ∙ rw (seeking_here s shared (omega arith) z) (lt-ltb 0 (suc (e - 1)) (omega arith));
+          }
 
-      pub noted_more : (i ≡ k → ⊥) → {d : ℕ} → d ≡ get_or next (e - 1) 0 → Seeking (at last) (bucket_at l) held k (bucket_of (item_at file k).page) d
-      noted_more t z = seeking_more s shared some (λ y. t (sym here ∙ y)) f.chained z
+      pub noted_more : (get_or last j 0 ≡ k → ⊥) → {d : ℕ} → d ≡ get_or next j 0 → Seeking (at last) (bucket_at l) held k (bucket_of (item_at file k).page) d
+      unfolding at
+      noted_more t z = seeking_more s shared (omega arith) (λ y. t (rw (a, before) at y)) f.chained (rw (a, before) z)
 
 -- ---- by all places: the first item from k on
 
--- Of the first j places none notes an item from k up to best, and best is noted unless it is the number that no item has.
-pub record Choosing (last : List ℕ) (held k best j : ℕ) : Type 0 where
-  pub within : j ≤ held
-  pub from : k ≤ best
-  pub none : (i : ℕ) → k ≤ i → i < best → has i (take j last) ≡ false
-  pub here : best ≡ k → has k (take j last) ≡ true
-
-pub choosing_none : (last : List ℕ) (held : ℕ) {k best : ℕ} → k < best → Choosing last held k best 0
+-- The least of a row is one of it, and none of it is less.
+least_in : (x : ℕ) (l : List ℕ) → has (fold min x l) (x ∷ l) ≡ true
 unfolding has
-choosing_none last held o = record { within = omega arith; from = omega arith; none = λ i a b. refl; here = λ q. absurd (omega arith) }
+least_in x [] = rw eqb_self
+least_in x (y ∷ l) =
+    let m : ℕ = fold min (min x y) l in
+    let h : eqb m (min x y) || has m l ≡ true = least_in (min x y) l in
+    split (has m l)
+    (λ t. rw (t, or-true, or-true))
+    (λ n. let e : m ≡ min x y = same m (min x y) (rw (n, or-false) at h) in
+    split (ltb x y)
+    (λ o. let q : m ≡ x = omega (arith, ltb-true x y o) in rw (eq-eqb m x q))
+    (λ o. let q : m ≡ y = omega (arith, ltb-false x y o) in rw (eq-eqb m y q, or-true (eqb m x))))
 
-module _ {last : List ℕ} {held k best j : ℕ} (c : Choosing last held k best j) where
-  pub choosing_all : held ≤ j → FirstNoted (take held last) k best
-  choosing_all b =
-      let q : j ≡ held = omega (arith, c.within) in
-      record { from = c.from; none = rw q at c.none; here = rw q at c.here }
+least_most : (x : ℕ) (l : List ℕ) (i : ℕ) → has i (x ∷ l) ≡ true → fold min x l ≤ i
+unfolding has
+least_most x [] i h = let e = same i x (rw or-false at h) in omega arith
+least_most x (y ∷ l) i h =
+    let a : fold min (min x y) l ≤ min x y = least_most (min x y) l (min x y) (rw eqb_self) in
+    split (has i l)
+    (λ t. least_most (min x y) l i (rw (t, or-true)))
+    (λ n. split (eqb i x)
+    (λ e. let q = same i x e in omega arith)
+    (λ f. let q = same i y (rw (f, n, or-false) at h) in omega arith))
 
-  module _ (l : held ≤ length last) (w : j < held) {i : ℕ} (r : i ≡ get_or last j 0) where
-    more : (x : ℕ) → has x (take (j + 1) last) ≡ has x (take j last) || eqb x i
-    unfolding has
-    more x = rw (take_next last j 0 (omega arith), has_join, or-false (eqb x (get_or last j 0)), r)
+module _ (k : ℕ) where
+  -- Of the items that are not before item k each is one, and the others are before it.
+  from_k : (items : List ℕ) (i : ℕ) → k ≤ i → has i (filter (λ j. nat_le k j) items) ≡ has i items
+  unfolding has
+  from_k [] i h = refl
+  from_k (j ∷ items) i h =
+      split (nat_le k j)
+      (λ t. rw (t, from_k items i h))
+      (λ f. let d = leb-false k j f in rw (f, from_k items i h, ne_eqb i j (λ q. omega arith)))
 
-    -- A place more, whose item is not one of those from k up to best.
-    next : {best' : ℕ} → k ≤ best' → best' ≤ best → ((x : ℕ) → k ≤ x → x < best' → x ≡ i → ⊥)
-        → (best' ≡ k → has k (take (j + 1) last) ≡ true) → Choosing last held k best' (j + 1)
-    next a b d h = record { within = omega arith; from = a; none = λ x o v. rw (more x, c.none x o (omega arith), ne_eqb x i (d x o v)); here = h }
+  not_before : (items : List ℕ) (i : ℕ) → has i (filter (λ j. nat_le k j) items) ≡ true → k ≤ i
+  unfolding has
+  not_before [] i h = absurd (false≢true h)
+  not_before (j ∷ items) i h =
+      split (nat_le k j)
+      (λ t. split (eqb i j)
+      (λ e. let q = same i j e in omega (arith, leb-true k j t))
+      (λ f. not_before items i (rw (t, f) at h)))
+      (λ f. not_before items i (rw f at h))
 
-    still : best ≡ k → has k (take (j + 1) last) ≡ true
-    still q = rw (more k, c.here q)
+  -- The least of them is the first that may be noted, or where there is none a number that no item has.
+  least_first : (items row : List ℕ) → row ≡ filter (λ j. nat_le k j) items → (top : ℕ) → k < top → FirstNoted items k (unwrap_or (reduce min row) top)
+  unfolding has
+  least_first items [] e top o = record {
+    from = omega arith;
+    none = λ i a b. sym (from_k items i a) ∙ sym (ap (has i) e);
+    here = λ q. absurd (omega arith);
+  }
+  least_first items (x ∷ row) e top o =
+      let m : ℕ = fold min x row in
+      let among : has m (filter (λ j. nat_le k j) items) ≡ true = sym (ap (has m) e) ∙ least_in x row in
+      record {
+        from = not_before items m among;
+        none = λ i a b. split (has i items)
+            (λ t. absurd (let z = least_most x row i (ap (has i) e ∙ from_k items i a ∙ t) in omega arith))
+            (λ f. f);
+        here = λ q. rw q at (sym (from_k items m (not_before items m among)) ∙ among);
+      }
 
-    -- Its item comes before k,
-    pub choosing_low : i < k → Choosing last held k best (j + 1)
-    choosing_low o = next c.from (omega arith) (λ x a v q. omega arith) still
-
-    -- or is no earlier than best,
-    pub choosing_high : best ≤ i → Choosing last held k best (j + 1)
-    choosing_high o = next c.from (omega arith) (λ x a v q. omega arith) still
-
-    -- or is the new best.
-    pub choosing_new : k ≤ i → i < best → Choosing last held k i (j + 1)
-    choosing_new o u = next o (omega arith) (λ x a v q. omega arith) (λ q. rw (more k, eq-eqb k i (sym q)) (or-true (has k (take j last))))
+  pub noted_first : (items : List ℕ) (top : ℕ) → k < top → {o : Option ℕ} → o ≡ first_from k items → FirstNoted items k (unwrap_or o top)
+  noted_first items top h e = rw e (least_first items _ refl top h)
 
 -- ---- by the place of the item's page
 
--- An item that is read has its page.
-pub page_of : {x y : Item} → x ≡ y → x.page ≡ y.page
-page_of e = rw e
-
-module _ {file last : List ℕ} {held : ℕ} {l : List ℕ} (n : Notes file last held l) (k : ℕ) {p : ℕ} (e : p ≡ (item_at file k).page) {j : ℕ} (q : j ≡ place p l) where
+module _ {file last : List ℕ} {held : ℕ} {l : List ℕ} (n : Notes file last held l) (k : ℕ) {p : ℕ} (e : p ≡ (item_at file k).page) where
   absent : has k (take held last) ≡ false → FirstNoted (take held last) k (k + 1)
   absent n = record { from = omega arith; none = λ i a b. (let t : k ≡ i = omega arith in rw t at n); here = λ t. absurd (omega arith) }
 
-  told : j < held → eqb (get_or last j 0) k ≡ has k (take held last)
-  told h = rw (q, e) (notes_told n k (rw (q, e) at h))
-
   -- The page is not held,
-  pub page_nowhere : held ≤ j → FirstNoted (take held last) k (k + 1)
-  page_nowhere h = absent (split (has k (take held last)) (λ t. absurd (omega (arith, rw (← e, ← q) at (notes_item n k t).0))) (λ t. t))
+  pub page_nowhere : None ≡ found p l → FirstNoted (take held last) k (k + 1)
+  page_nowhere q =
+      let h = found_nowhere p l q in
+      absent (split (has k (take held last)) (λ t. absurd (omega (arith, rw (← e) at (notes_item n k t).0, notes_long n))) (λ t. t))
 
-  module _ (h : j < held) {i : ℕ} (r : i ≡ get_or last j 0) where
+  module _ {j : ℕ} (q : Some j ≡ found p l) where
+    told : eqb (get_or last j 0) k ≡ has k (take held last)
+    told =
+        let (r, h) = found_place p l q in
+        rw (r, e) (notes_told n k (rw (r, e, notes_long n) at h))
+
     -- or notes the item,
-    pub page_here : i ≡ k → FirstNoted (take held last) k k
-    page_here t = record { from = omega arith; none = λ x a b. absurd (omega arith); here = λ u. sym (told h) ∙ eq-eqb (get_or last j 0) k (sym r ∙ t) }
+    pub page_here : get_or last j 0 ≡ k → FirstNoted (take held last) k k
+    page_here t = record { from = omega arith; none = λ x a b. absurd (omega arith); here = λ u. sym told ∙ eq-eqb (get_or last j 0) k t }
 
     -- or another.
-    pub page_other : (i ≡ k → ⊥) → FirstNoted (take held last) k (k + 1)
-    page_other t = absent (sym (told h) ∙ ne_eqb (get_or last j 0) k (λ u. t (r ∙ u)))
+    pub page_other : (get_or last j 0 ≡ k → ⊥) → FirstNoted (take held last) k (k + 1)
+    page_other t = absent (sym told ∙ ne_eqb (get_or last j 0) k t)
 
 -- An item that is not noted is before the first that may be.
 pub first-after : {items : List ℕ} {k r : ℕ} → FirstNoted items k r → (r ≡ k → ⊥) → k < r

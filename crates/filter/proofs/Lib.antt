@@ -2,5 +2,5 @@ pub mod Noting
 pub mod Finding
 pub mod Flagged
 pub mod Filling
-pub mod Once
 pub mod Bits
+pub mod Once

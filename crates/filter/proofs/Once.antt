@@ -1,46 +1,68 @@
--- Each public function's contract allows one result, and of a lent row one content afterwards; of `first_noted` what it says of its item. Assumes nothing.
+-- Each public function's contract allows one result, and of a lent filter or lent flags one content afterwards; of `first_noted` what it says of its item. Assumes nothing.
 use Prim.Native.Nat.{ℕ}
 use mathlib.Core.Path.{◌≡◌, sym, ◌∙◌}
 use mathlib.Core.Bool.{true≢false}
 use mathlib.Core.List.{List}
 use native.Mathlib.Omega.{arith}
-use lib.ListN.{get_or}
+use mir.Val.{Fits}
 use lib.Dec.{eqb}
+use mir.Syntax.{w8}
 use borrow.Author.Tests.{eqb-false}
 use Rattle.pages.proofs.Choice.{split, same}
+use contract.Lifetimes.{Lfts}
+use borrow.Fn.Kinds.{ParamKind, ResultKind, Dens, Out, res_t, ended_of}
+use denote.Triple.Clauses.{AtExit}
 use Rattle.pages.proofs.Once.{OneResult, OneBuffer}
-use Rattle.filter.specs.Filter.{flags_of, Clear, FirstNoted}
+use Rattle.filter.specs.Filter.{flags_of, FirstNoted}
 use Rattle.filter.proofs.Finding.{first-after}
-use Rattle.filter.proofs.find.Kinds as find
-use Rattle.filter.proofs.find.Reads.{Post as find_post}
-use Rattle.filter.proofs.find_flagged.Kinds as find_flagged
-use Rattle.filter.proofs.find_flagged.Reads.{Post as find_flagged_post}
-use Rattle.filter.proofs.find_unflagged.Kinds as find_unflagged
-use Rattle.filter.proofs.find_unflagged.Reads.{Post as find_unflagged_post}
-use Rattle.filter.proofs.put_flag.Kinds as put_flag
-use Rattle.filter.proofs.put_flag.Reads.{Post as put_flag_post}
-use Rattle.filter.proofs.is_at.Kinds as is_at
-use Rattle.filter.proofs.is_at.Reads.{Post as is_at_post}
-use Rattle.filter.proofs.add.Kinds as add
-use Rattle.filter.proofs.add.Reads.{Post as add_post}
-use Rattle.filter.proofs.empty.Kinds as empty
-use Rattle.filter.proofs.empty.Reads.{Post as empty_post}
+use Rattle.filter.proofs.Table.new.Kinds as new
+use Rattle.filter.proofs.Table.new.Reads.{Post as new_post}
+use Rattle.filter.proofs.flags.Flags.new.Kinds as flags_new
+use Rattle.filter.proofs.flags.Flags.new.Reads.{Post as flags_new_post}
+use Rattle.filter.proofs.Table.find.Kinds as find
+use Rattle.filter.proofs.Table.find.Reads.{Post as find_post}
+use Rattle.filter.proofs.Table.find_by_flag.Kinds as find_by_flag
+use Rattle.filter.proofs.Table.find_by_flag.Reads.{Post as find_by_flag_post}
+use Rattle.filter.proofs.Table.is_at.Kinds as is_at
+use Rattle.filter.proofs.Table.is_at.Reads.{Post as is_at_post}
+use Rattle.filter.proofs.Table.note.Kinds as note
+use Rattle.filter.proofs.Table.note.Reads.{Post as note_post}
+use Rattle.filter.proofs.Table.add.Kinds as add
+use Rattle.filter.proofs.Table.add.Reads.{Post as add_post}
+use Rattle.filter.proofs.Table.empty.Kinds as empty
+use Rattle.filter.proofs.Table.empty.Reads.{Post as empty_post}
+use Rattle.filter.proofs.flags.Flags.is_set.Kinds as is_set
+use Rattle.filter.proofs.flags.Flags.is_set.Reads.{Post as is_set_post}
+use Rattle.filter.proofs.flags.Flags.put.Kinds as put
+use Rattle.filter.proofs.flags.Flags.put.Reads.{Post as put_post}
+use Rattle.filter.proofs.flags.Flags.clear.Kinds as clear
+use Rattle.filter.proofs.flags.Flags.clear.Reads.{Post as clear_post}
+
+-- What is seen of any two new filters or flags is the same.
+module _ {n : ℕ} (ps : List (ParamKind n)) (r : ResultKind n) (Post : Out n ps r) where
+  abbrev pub OneSeen : {A : Type 0} → ((κs : Lfts n) → (res_t r κs).Denot → A) → Type 0
+  OneSeen seen =
+      (κs : Lfts n) (args : Dens κs ps) (x y : (res_t r κs).Denot) (s t : AtExit (ended_of n ps r) κs)
+      → Post κs args x s → Post κs args y t → seen κs x ≡ seen κs y
+
+pub new_rows_once : OneSeen new.ps new.r new_post {A = List ℕ × (List ℕ × (List ℕ × List ℕ))} (λ κs x. (x.file.now, (x.last, (x.chains.heads, x.chains.next))))
+new_rows_once κs args x y s t p q = λ i. (
+  (p.0 ∙ sym q.0) i,
+  ((p.1.0 ∙ sym q.1.0) i, ((p.1.1.0 ∙ sym q.1.1.0) i, (p.1.1.1.0 ∙ sym q.1.1.1.0) i)),
+)
+
+pub new_numbers_once : OneSeen new.ps new.r new_post {A = ℕ × ℕ} (λ κs x. (x.held, x.base))
+new_numbers_once κs args x y s t p q = λ i. ((p.1.1.1.1.0 ∙ sym q.1.1.1.1.0) i, (p.1.1.1.1.1 ∙ sym q.1.1.1.1.1) i)
+
+pub new_flags_once : OneSeen flags_new.ps flags_new.r flags_new_post (λ κs x. flags_of x.bytes)
+new_flags_once κs args x y s t p q = p ∙ sym q
 
 pub find_once : OneResult find.ps find.r find_post
 find_once κs args x y s t p q = p ∙ sym q
 
-pub find_flagged_once : OneResult find_flagged.ps find_flagged.r find_flagged_post
-find_flagged_once κs args x y s t p q = p ∙ sym q
-
-pub find_unflagged_once : OneResult find_unflagged.ps find_unflagged.r find_unflagged_post
-find_unflagged_once κs args x y s t p q = p ∙ sym q
-
-pub put_flag_once : OneBuffer put_flag.ps put_flag.r put_flag_post (λ κs s. flags_of s.0.now)
-put_flag_once κs args x y s t p q = p ∙ sym q
-
--- Of two rows that `clear_flags` leaves no flag is set.
-pub clear_flags_once : (a b : List ℕ) → Clear 0 (flags_of a) → Clear 0 (flags_of b) → (j : ℕ) → get_or (flags_of a) j 0 ≡ get_or (flags_of b) j 0
-clear_flags_once a b p q j = p j (omega arith) ∙ sym (q j (omega arith))
+-- Where a flag is asked for, and where none is.
+pub find_by_flag_once : (on : ℕ) (fits : Fits w8 on) → OneResult (find_by_flag.ps on fits) (find_by_flag.r on fits) (find_by_flag_post on fits)
+find_by_flag_once on fits κs args x y s t p q = p ∙ sym q
 
 pub is_at_once : OneResult is_at.ps is_at.r is_at_post
 is_at_once κs args x y s t p q = p ∙ sym q
@@ -52,17 +74,29 @@ first_noted_once items {k} {x} {y} p q e =
     (λ t. same y k t)
     (λ t. absurd (true≢false (sym (p.here e) ∙ q.none k (omega arith) (first-after q (eqb-false y k t)))))
 
-pub add_last_once : OneBuffer add.ps add.r add_post (λ κs s. s.1.0.now)
+pub note_last_once : OneBuffer note.ps note.r note_post (λ κs s. s.0.now.last)
+note_last_once κs args x y s t p q = p.0 ∙ sym q.0
+
+pub add_last_once : OneBuffer add.ps add.r add_post (λ κs s. s.0.now.last)
 add_last_once κs args x y s t p q = p.0 ∙ sym q.0
 
-pub add_heads_once : OneBuffer add.ps add.r add_post (λ κs s. s.1.1.1.1.0.now)
+pub add_heads_once : OneBuffer add.ps add.r add_post (λ κs s. s.0.now.chains.heads)
 add_heads_once κs args x y s t p q = p.1.0 ∙ sym q.1.0
 
-pub add_next_once : OneBuffer add.ps add.r add_post (λ κs s. s.1.1.1.1.1.0.now)
+pub add_next_once : OneBuffer add.ps add.r add_post (λ κs s. s.0.now.chains.next)
 add_next_once κs args x y s t p q = p.1.1.0 ∙ sym q.1.1.0
 
-pub empty_once : OneResult empty.ps empty.r empty_post
+pub empty_once : OneBuffer empty.ps empty.r empty_post (λ κs s. s.0.now.base)
 empty_once κs args x y s t p q = p.0 ∙ sym q.0
 
-pub empty_heads_once : OneBuffer empty.ps empty.r empty_post (λ κs s. s.1.1.1.1.0.now)
+pub empty_heads_once : OneBuffer empty.ps empty.r empty_post (λ κs s. s.0.now.chains.heads)
 empty_heads_once κs args x y s t p q = p.1.0 ∙ sym q.1.0
+
+pub is_set_once : OneResult is_set.ps is_set.r is_set_post
+is_set_once κs args x y s t p q = p ∙ sym q
+
+pub put_flag_once : OneBuffer put.ps put.r put_post (λ κs s. flags_of s.0.now.bytes)
+put_flag_once κs args x y s t p q = p ∙ sym q
+
+pub clear_flags_once : OneBuffer clear.ps clear.r clear_post (λ κs s. flags_of s.0.now.bytes)
+clear_flags_once κs args x y s t p q = p ∙ sym q

@@ -1,8 +1,10 @@
 -- The reducer's filter: a row of item numbers, one for each page that it holds, and chains by which a page is found. No page is stored: it is read from the file. Assumes nothing.
-use Rattle.std.specs.Prelude.{ℕ, ◌+◌, ◌*◌, ◌/◌, ◌%◌, ◌≤◌, ◌<◌, ◌≡◌, Bool, true, false, cond, not, List, [], ◌∷◌, map, length, get_or, take, replicate, ltb, eqb}
+use Rattle.std.specs.Prelude.{ℕ, zero, suc, ◌+◌, ◌-◌, ◌*◌, ◌/◌, ◌%◌, ◌≤◌, ◌<◌, ◌≡◌, Bool, true, false, cond, not, List, [], ◌∷◌, map, length, get_or, take, replicate, filter, min, nat_le, ltb, eqb, Option, Some, None}
+use Rattle.std.specs.List.{reduce}
+use Rattle.std.specs.Coded.{Coded-set, coded_ℕ, coded_bool, coded_list, ×_prop, Unit-prop, le_prop}
 use Rattle.pages.specs.Pages.{has, place, Distinct}
 use Rattle.trace.specs.Layout.{item_at}
-use Rattle.chains.specs.Chains.{at, Chained, mixed}
+use Rattle.chains.specs.Chains.{at, newest, Chained, mixed}
 
 -- ---- which pages it holds
 
@@ -28,6 +30,10 @@ pub record Notes (file last : List ℕ) (held : ℕ) (l : List ℕ) : Type 0 whe
 
 -- ---- how it finds them
 
+-- How many places there are.
+abbrev pub places : ℕ
+places = 1024
+
 -- How many buckets there are.
 abbrev pub buckets : ℕ
 buckets = 1024
@@ -52,13 +58,60 @@ pub record Holds (file last : List ℕ) (held base : ℕ) (heads next l : List �
 abbrev pub IsFilter : List ℕ → List ℕ → ℕ → ℕ → List ℕ → List ℕ → Type 0
 IsFilter file last held base heads next = Holds file last held base heads next (pages_in file last held)
 
+-- ---- it is one fact, which has one proof, as a ghost field has to
+
+Distinct-prop : (l : List ℕ) → IsProp (Distinct l)
+Distinct-prop [] = Unit-prop
+Distinct-prop (q ∷ l) = ×_prop (Coded-set coded_bool (has q l) false) (Distinct-prop l)
+
+Notes-prop : (file last : List ℕ) (held : ℕ) (l : List ℕ) → IsProp (Notes file last held l)
+Notes-prop file last held l a b = λ i. record {
+  within = le_prop a.within b.within i;
+  readable = λ j o. le_prop (a.readable j o) (b.readable j o) i;
+  pages_are = Coded-set (coded_list coded_ℕ) (pages_in file last held) l a.pages_are b.pages_are i;
+  once = Distinct-prop l a.once b.once i;
+}
+
+Chained-prop : (m : ℕ → ℕ) (n base : ℕ) (heads next : List ℕ) → IsProp (Chained m n base heads next)
+Chained-prop m n base heads next a b = λ i. record {
+  heads_are = λ v. Coded-set coded_ℕ (get_or heads v 0 - base) (newest m v n) (a.heads_are v) (b.heads_are v) i;
+  next_are = λ j o. Coded-set coded_ℕ (get_or next j 0) (newest m (m j) j) (a.next_are j o) (b.next_are j o) i;
+}
+
+pub Holds-prop : (file last : List ℕ) (held base : ℕ) (heads next l : List ℕ) → IsProp (Holds file last held base heads next l)
+Holds-prop file last held base heads next l a b = λ i. record {
+  notes = Notes-prop file last held l a.notes b.notes i;
+  chained = Chained-prop (bucket_at l) held base heads next a.chained b.chained i;
+  heads_long = le_prop a.heads_long b.heads_long i;
+  next_long = le_prop a.next_long b.next_long i;
+  small = le_prop a.small b.small i;
+}
+
+-- ---- what is done with it
+
+-- Item k can be noted at place j: it is in the file, it has the place's page, and its number fits four bytes.
+pub record CanNote (file last : List ℕ) (held j k : ℕ) : Type 0 where
+  pub within : j < held
+  pub readable : 23 + 19 * (k + 1) ≤ length file
+  pub few : k < 4294967296
+  pub page : (item_at file k).page ≡ get_or (pages_in file last held) j 0
+
 -- Item k can be added: it is in the file, its page is new, there is a place for it, and its number fits four bytes.
-pub record CanAdd (file last : List ℕ) (held base : ℕ) (heads next : List ℕ) (k : ℕ) : Type 0 where
-  pub filter : IsFilter file last held base heads next
+pub record CanAdd (file last : List ℕ) (held k : ℕ) : Type 0 where
   pub room : held < length last
   pub readable : 23 + 19 * (k + 1) ≤ length file
   pub few : k < 4294967296
   pub new : has (item_at file k).page (pages_in file last held) ≡ false
+
+-- ---- what is found
+
+-- A place if it is one of so many, or none.
+unfoldable pub among : ℕ → ℕ → Option ℕ
+among j held = cond (ltb j held) (Some j) None
+
+-- The place of a page, or none where it is not in the list.
+unfoldable pub found : ℕ → List ℕ → Option ℕ
+found p l = among (place p l) (length l)
 
 -- ---- which items it notes
 
@@ -67,6 +120,10 @@ pub record FirstNoted (items : List ℕ) (k r : ℕ) : Type 0 where
   pub from : k ≤ r
   pub none : (i : ℕ) → k ≤ i → i < r → has i items ≡ false
   pub here : r ≡ k → has k items ≡ true
+
+-- The first of these items that is not before item k, or none.
+abbrev pub first_from : ℕ → List ℕ → Option ℕ
+first_from k items = reduce min (filter (λ i. nat_le k i) items)
 
 -- ---- flags, one for each place
 
@@ -79,6 +136,15 @@ flags_of (b ∷ bs) = b % 2 ∷ b / 2 % 2 ∷ flags_of bs
 abbrev pub Clear : ℕ → List ℕ → Type 0
 Clear c flags = (j : ℕ) → c ≤ j → get_or flags j 0 ≡ 0
 
+-- A flag that is set, or not.
+abbrev pub flag_of : Bool → ℕ
+flag_of on = cond on 1 0
+
+-- How many of the first c flags are set.
+unfoldable pub flags_set : ℕ → List ℕ → ℕ
+flags_set zero flags = 0
+flags_set (suc j) flags = cond (eqb (get_or flags j 0) 1) (suc (flags_set j flags)) (flags_set j flags)
+
 -- Whether a flag is 1, or is not, as is asked.
 unfoldable pub flag_is : Bool → ℕ → Bool
 flag_is on flag = cond on (eqb flag 1) (not (eqb flag 1))
@@ -86,6 +152,10 @@ flag_is on flag = cond on (eqb flag 1) (not (eqb flag 1))
 -- The place of a page whose flag is as is asked, or how many pages there are.
 unfoldable pub place_if : Bool → List ℕ → ℕ → List ℕ → ℕ
 place_if on flags p l = cond (flag_is on (get_or flags (place p l) 0)) (place p l) (length l)
+
+-- The same place, or none.
+unfoldable pub found_if : Bool → List ℕ → ℕ → List ℕ → Option ℕ
+found_if on flags p l = among (place_if on flags p l) (length l)
 
 -- ---- emptying it
 

@@ -1,11 +1,17 @@
 // The reducer's filter, in 8 KiB: a four-byte item number for each page that it holds, and chains of two-byte places to find a page by.
 #![tactic(auto)]
 
-ghost use Rattle.std.specs.Prelude.{◌≡◌, ◌+◌, ◌*◌, ◌≤◌, ◌<◌, true, false, cond, ◌&&◌, [], length, get_or, take, set, eqb};
+ghost use Rattle.std.specs.Prelude.{◌≡◌, ◌+◌, ◌-◌, ◌*◌, ◌≤◌, ◌<◌, ℕ, true, false, cond, ◌&&◌, [], length, get_or, take, set, replicate, eqb};
 ghost use Rattle.pages.specs.Pages.{has, add as added, place};
 ghost use Rattle.trace.specs.Layout.{item_at};
-ghost use Rattle.chains.specs.Chains.{heads_with, next_with};
-ghost use Rattle.filter.specs.Filter.{pages_in, Stands, Notes, buckets, bucket_of, Holds, IsFilter, CanAdd, FirstNoted, flag_is, place_if, empty_base, empty_heads, flags_of, Clear};
+ghost use Rattle.chains.specs.Chains.{counted, heads_with, next_with};
+ghost use Rattle.filter.specs.Filter.{pages_in, places, buckets, bucket_of, Holds, IsFilter, Holds-prop, CanNote, CanAdd, FirstNoted, first_from, found, flags_of, flag_is, found_if, empty_base, empty_heads};
+
+use chains::Chains;
+use flags::Flags;
+use limits::Filter;
+
+pub mod flags;
 
 // How many heads there are. 1,024 of two bytes, with 1,024 places of four and two, make 8 KiB.
 pub const BUCKETS: usize = 1024;
@@ -17,356 +23,232 @@ const LINKS: usize = 8;
 // Of as many items whose chains are long one looks for the next noted item. It is dearer than to look for one item, and spares the search for all up to that one.
 const FAR: usize = 16;
 
-fn number(x: u32) -> usize
-    ensures { result ≡ x }
-{
-    x as usize
+// The filter of a file. Its first places, as many as are held, note an item each, and so hold the item's page, which is read from the file.
+#[derive(Drop)]
+pub struct Table<'a> {
+    pub file: &'a [u8],
+    pub last: [u32; Filter::PLACES],
+    pub chains: Chains<{ Filter::PLACES }, BUCKETS>,
+    pub held: usize,
+    pub base: usize,
+    pub ghost is: { IsFilter file.now last held base chains.heads chains.next } by { Holds-prop file.now last held base chains.heads chains.next (pages_in file.now last held) },
 }
 
-// The item that place j notes.
-fn note_at(last: &[u32], j: usize) -> usize
-    requires { j < length last.now }
-    ensures { result ≡ get_or last.now j 0 }
-{
-    number(last[j])
-}
+impl<'a> Table<'a> {
+    ghost use Rattle.filter.specs.Tables.{pages};
 
-// The bucket of a page.
-fn bucket(page: u64) -> usize
-    ensures value { result ≡ bucket_of page }
-    ensures upper_bound { result < buckets }
-{
-    chains::mix(page) as usize / 4194304 % BUCKETS
-}
-
-// The page of the item that place j notes.
-fn page_at(file: &[u8], last: &[u32], j: usize) -> u64
-    requires { Stands file.now last.now j }
-    ensures { result ≡ (item_at file.now (get_or last.now j 0)).page }
-{
-    let x = trace::read::item_at(file, note_at(last, j));
-    x.page
-}
-
-// The place of a page, or how many pages there are, by all places in turn: four at a time, since a turn costs as much as a place.
-fn scan(file: &[u8], last: &[u32], held: usize, page: u64) -> usize
-    requires { Notes file.now last.now held (pages_in file.now last.now held) }
-    ensures { result ≡ place page (pages_in file.now last.now held) }
-{
-    let mut j = 0;
-    while j + 4 <= held {
-        if page_at(file, last, j) == page {
-            return j;
+    // No page is held.
+    pub fn new(file: &'a [u8]) -> Self
+        ensures file { result.file.now ≡ file.now }
+        ensures last { result.last ≡ replicate places 0 }
+        ensures heads { result.chains.heads ≡ replicate buckets 0 }
+        ensures next { result.chains.next ≡ replicate places 0 }
+        ensures held { result.held ≡ 0 }
+        ensures base { result.base ≡ 0 }
+    {
+        Table {
+            file,
+            last: [0; Filter::PLACES],
+            chains: Chains::new(),
+            held: 0,
+            base: 0,
         }
-        if page_at(file, last, j + 1) == page {
-            return j + 1;
+    }
+
+    // The last place whose page shares the bucket of this page.
+    fn newest(&self, page: u64) -> Option<usize>
+        ensures { counted result ≡ get_or self.now.chains.heads (bucket_of page) 0 - self.now.base }
+    {
+        self.chains.head(self.base, self.chains.bucket(page))
+    }
+
+    // The page of the item that place j notes.
+    fn page_at(&self, j: usize) -> u64
+        requires { j < self.now.held }
+        ensures { result ≡ (item_at self.now.file.now (get_or self.now.last j 0)).page }
+    {
+        trace::read::item_at(self.file, self.last[j] as usize).page
+    }
+
+    // The place of a page by all places in turn. Tried and slower, by a tenth to a third on hostile traces: a `for` over the places; so four go in a turn.
+    // It is not put into its callers' loops, where its counters would find no registers.
+    #[inline(never)]
+    fn scan(&self, page: u64) -> Option<usize>
+        ensures { result ≡ found page (pages self.now) }
+    {
+        let mut j = 0;
+        while j + 4 <= self.held {
+            if self.page_at(j) == page {
+                return Some(j);
+            }
+            if self.page_at(j + 1) == page {
+                return Some(j + 1);
+            }
+            if self.page_at(j + 2) == page {
+                return Some(j + 2);
+            }
+            if self.page_at(j + 3) == page {
+                return Some(j + 3);
+            }
+            j += 4;
         }
-        if page_at(file, last, j + 2) == page {
-            return j + 2;
-        }
-        if page_at(file, last, j + 3) == page {
-            return j + 3;
-        }
-        j += 4;
-    }
-    while j < held {
-        if page_at(file, last, j) == page {
-            return j;
-        }
-        j += 1;
-    }
-    held
-}
-
-// The place of a page in the filter, or how many pages it holds.
-pub fn find(
-    file: &[u8],
-    last: &[u32],
-    held: usize,
-    base: usize,
-    heads: &[u16],
-    next: &[u16],
-    page: u64,
-) -> usize
-    requires { IsFilter file.now last.now held base heads.now next.now }
-    ensures { result ≡ place page (pages_in file.now last.now held) }
-{
-    let mut left = LINKS;
-    let mut e = chains::head(base, heads, bucket(page));
-    while 0 < e {
-        if page_at(file, last, e - 1) == page {
-            return e - 1;
-        }
-        if left == 0 {
-            return scan(file, last, held, page);
-        }
-        left -= 1;
-        e = chains::link(next, e - 1);
-    }
-    held
-}
-
-// The flag of place j.
-fn flag_at(flags: &[u8], j: usize) -> u8
-    requires { j < length (flags_of flags.now) }
-    ensures { result ≡ get_or (flags_of flags.now) j 0 }
-{
-    let b = flags[j / 2];
-    if j % 2 == 0 { b % 2 } else { b / 2 % 2 }
-}
-
-// Place j gets the flag v. Two flags share a byte: with a byte each the reducer would not keep to 9 KiB of stack.
-pub fn put_flag(flags: &mut [u8], j: usize, v: u8)
-    requires j_in_bounds { j < length (flags_of flags.old) }
-    requires v_bound { v ≤ 1 }
-    ensures { flags_of flags.new ≡ set (flags_of flags.old) j v }
-{
-    let i = j / 2;
-    let b = flags[i];
-    if j % 2 == 0 {
-        flags[i] = b / 2 % 2 * 2 + v;
-    } else {
-        flags[i] = b % 2 + 2 * v;
-    }
-}
-
-// No flag is set.
-pub fn clear_flags(flags: &mut [u8])
-    ensures { Clear 0 (flags_of flags.new) }
-{
-    let mut i = 0;
-    while i < flags.len() {
-        flags[i] = 0;
-        i += 1;
-    }
-}
-
-// Whether the flag of place j is as is asked.
-fn flag_is(flags: &[u8], on: bool, j: usize) -> bool
-    requires { j < length (flags_of flags.now) }
-    ensures { result ≡ flag_is on (get_or (flags_of flags.now) j 0) }
-{
-    let f = flag_at(flags, j);
-    if on {
-        return f == 1;
-    }
-    f != 1
-}
-
-// Whether place j has the page, and a flag as is asked. The flag is looked at first: the page has to be read from the file.
-fn is_flagged(file: &[u8], last: &[u32], flags: &[u8], on: bool, page: u64, j: usize) -> bool
-    requires stands { Stands file.now last.now j }
-    requires j_in_bounds { j < length (flags_of flags.now) }
-    ensures { result ≡ flag_is on (get_or (flags_of flags.now) j 0) && eqb (item_at file.now (get_or last.now j 0)).page page }
-{
-    if !flag_is(flags, on, j) {
-        return false;
-    }
-    page_at(file, last, j) == page
-}
-
-// Place j if it is one of those held and its flag is as is asked, or how many there are.
-fn if_flagged(flags: &[u8], on: bool, held: usize, j: usize) -> usize
-    requires held_in_bounds { held ≤ length (flags_of flags.now) }
-    requires j_le_held { j ≤ held }
-    ensures { result ≡ cond (flag_is on (get_or (flags_of flags.now) j 0)) j held }
-{
-    if held <= j {
-        return held;
-    }
-    if flag_is(flags, on, j) {
-        return j;
-    }
-    held
-}
-
-// The place of a page in the filter if its flag is set, or how many pages the filter holds.
-pub fn find_flagged(
-    file: &[u8],
-    last: &[u32],
-    held: usize,
-    base: usize,
-    heads: &[u16],
-    next: &[u16],
-    flags: &[u8],
-    page: u64,
-) -> usize
-    requires filter { IsFilter file.now last.now held base heads.now next.now }
-    requires held_in_bounds { held ≤ length (flags_of flags.now) }
-    ensures { result ≡ place_if true (flags_of flags.now) page (pages_in file.now last.now held) }
-{
-    let mut left = LINKS;
-    let mut d = chains::head(base, heads, bucket(page));
-    while 0 < d {
-        if is_flagged(file, last, flags, true, page, d - 1) {
-            return d - 1;
-        }
-        if left == 0 {
-            return if_flagged(flags, true, held, scan(file, last, held, page));
-        }
-        left -= 1;
-        d = chains::link(next, d - 1);
-    }
-    held
-}
-
-// The same if its flag is not set. These are two functions, each with one caller, so that the compiler puts each into its caller's loop.
-pub fn find_unflagged(
-    file: &[u8],
-    last: &[u32],
-    held: usize,
-    base: usize,
-    heads: &[u16],
-    next: &[u16],
-    flags: &[u8],
-    page: u64,
-) -> usize
-    requires filter { IsFilter file.now last.now held base heads.now next.now }
-    requires held_in_bounds { held ≤ length (flags_of flags.now) }
-    ensures { result ≡ place_if false (flags_of flags.now) page (pages_in file.now last.now held) }
-{
-    let mut left = LINKS;
-    let mut d = chains::head(base, heads, bucket(page));
-    while 0 < d {
-        if is_flagged(file, last, flags, false, page, d - 1) {
-            return d - 1;
-        }
-        if left == 0 {
-            return if_flagged(flags, false, held, scan(file, last, held, page));
-        }
-        left -= 1;
-        d = chains::link(next, d - 1);
-    }
-    held
-}
-
-// Whether a page that the filter holds stands at place c.
-pub fn is_at(file: &[u8], last: &[u32], held: usize, page: u64, c: usize) -> bool
-    requires notes { Notes file.now last.now held (pages_in file.now last.now held) }
-    requires held_value { has page (pages_in file.now last.now held) ≡ true }
-    ensures { result ≡ eqb (place page (pages_in file.now last.now held)) c }
-{
-    if held <= c {
-        return false;
-    }
-    page_at(file, last, c) == page
-}
-
-// The first item from k on that the places note, or a number that no item has.
-fn next_noted(last: &[u32], held: usize, k: usize) -> usize
-    requires held_in_bounds { held ≤ length last.now }
-    requires k_bound { k < 18446744073709551615 }
-    ensures { FirstNoted (take held last.now) k result }
-{
-    let mut best = 18446744073709551615;
-    let mut j = 0;
-    while j < held {
-        let i = note_at(last, j);
-        if i < k {
+        while j < self.held {
+            if self.page_at(j) == page {
+                return Some(j);
+            }
             j += 1;
-        } else {
-            if i < best {
-                best = i;
-                j += 1;
-            } else {
-                j += 1;
+        }
+        None
+    }
+
+    // The place of a page.
+    pub fn find(&self, page: u64) -> Option<usize>
+        ensures { result ≡ found page (pages self.now) }
+    {
+        let mut left = LINKS;
+        let mut at = self.newest(page);
+        while let Some(here) = at {
+            if self.page_at(here) == page {
+                return Some(here);
             }
-        }
-    }
-    best
-}
-
-// The first item from k on that the filter may note, by the place of item k's page.
-fn noted_at_page(file: &[u8], last: &[u32], held: usize, page: u64, k: usize) -> usize
-    requires notes { Notes file.now last.now held (pages_in file.now last.now held) }
-    requires page_value { page ≡ (item_at file.now k).page }
-    requires k_bound { k < 18446744073709551615 }
-    ensures { FirstNoted (take held last.now) k result }
-{
-    let j = scan(file, last, held, page);
-    if held <= j {
-        return k + 1;
-    }
-    if note_at(last, j) == k {
-        return k;
-    }
-    k + 1
-}
-
-// The first item from k on that the filter may note: k if it does. The numbers on the chain of item k's page tell that, and where the chain is long
-// the place of its page. Now and then all places are gone through there, and tell how far on the next one is: one such search serves all items up to it.
-pub fn first_noted(
-    file: &[u8],
-    last: &[u32],
-    held: usize,
-    base: usize,
-    heads: &[u16],
-    next: &[u16],
-    k: usize,
-) -> usize
-    requires filter { IsFilter file.now last.now held base heads.now next.now }
-    requires k_in_bounds { 23 + 19 * (k + 1) ≤ length file.now }
-    ensures { FirstNoted (take held last.now) k result }
-{
-    let x = trace::read::item_at(file, k);
-    let mut left = LINKS;
-    let mut p = chains::head(base, heads, bucket(x.page));
-    while 0 < p {
-        if note_at(last, p - 1) == k {
-            return k;
-        }
-        if left == 0 {
-            if k % FAR == 0 {
-                return next_noted(last, held, k);
+            if left == 0 {
+                return self.scan(page);
             }
-            return noted_at_page(file, last, held, x.page, k);
+            left -= 1;
+            at = self.chains.link(here);
         }
-        left -= 1;
-        p = chains::link(next, p - 1);
+        None
     }
-    k + 1
-}
 
-// The filter with one page more, that of item k.
-pub fn add(
-    file: &[u8],
-    last: &mut [u32],
-    held: usize,
-    base: usize,
-    heads: &mut [u16],
-    next: &mut [u16],
-    k: usize,
-)
-    requires { CanAdd file.now last.old held base heads.old next.old k }
-    ensures last_after { last.new ≡ set last.old held k }
-    ensures heads_after { heads.new ≡ heads_with base held (bucket_of (item_at file.now k).page) heads.old }
-    ensures next_after { next.new ≡ next_with base held (bucket_of (item_at file.now k).page) heads.old next.old }
-    ensures holds { Holds file.now last.new (held + 1) base heads.new next.new
-        (added (item_at file.now k).page (pages_in file.now last.old held)) }
-{
-    let x = trace::read::item_at(file, k);
-    chains::push(base, heads, next, held, bucket(x.page));
-    last[held] = k as u32;
-}
-
-// The filter with no page: answers its base. The heads stay while two bytes hold the numbers of a whole filter more, since no head is above the new base; else they are cleared.
-pub fn empty(
-    file: &[u8],
-    last: &[u32],
-    held: usize,
-    base: usize,
-    heads: &mut [u16],
-    next: &[u16],
-) -> usize
-    requires { IsFilter file.now last.now held base heads.old next.now }
-    ensures value { result ≡ empty_base base held (length last.now) }
-    ensures heads_after { heads.new ≡ empty_heads base held (length last.now) heads.old }
-    ensures holds { Holds file.now last.now 0 result heads.new next.now [] }
-{
-    let above = base + held;
-    if above + last.len() <= 65535 {
-        return above;
+    // Whether place j has the page, and a flag as is asked. The flag is looked at first: the page has to be read from the file.
+    fn is_flagged<const ON: bool>(&self, flags: &Flags, page: u64, j: usize) -> bool
+        requires { j < self.now.held }
+        ensures { result ≡ flag_is ON (get_or (flags_of flags.now.bytes) j 0) && eqb (item_at self.now.file.now (get_or self.now.last j 0)).page page }
+    {
+        flags.is_set(j) == ON && self.page_at(j) == page
     }
-    chains::clear(heads);
-    0
+
+    // The place of a page if its flag is as is asked.
+    pub fn find_by_flag<const ON: bool>(&self, flags: &Flags, page: u64) -> Option<usize>
+        ensures { result ≡ found_if ON (flags_of flags.now.bytes) page (pages self.now) }
+    {
+        let mut left = LINKS;
+        let mut at = self.newest(page);
+        while let Some(j) = at {
+            if self.is_flagged::<ON>(flags, page, j) {
+                return Some(j);
+            }
+            if left == 0 {
+                let j = self.scan(page)?;
+                return (flags.is_set(j) == ON).then_some(j);
+            }
+            left -= 1;
+            at = self.chains.link(j);
+        }
+        None
+    }
+
+    // Whether a page that the filter holds stands at place c.
+    pub fn is_at(&self, page: u64, c: usize) -> bool
+        requires { has page (pages self.now) ≡ true }
+        ensures { result ≡ eqb (place page (pages self.now)) c }
+    {
+        c < self.held && self.page_at(c) == page
+    }
+
+    // The first item from k on that the places note.
+    fn next_noted(&self, k: usize) -> Option<usize>
+        ensures { result ≡ first_from k (take self.now.held self.now.last) }
+    {
+        self.last[..self.held]
+            .iter()
+            .map(|i| *i as usize)
+            .filter(|i| k <= *i)
+            .min()
+    }
+
+    // The first item from k on that the filter may note, by the place of item k's page.
+    fn noted_at_page(&self, page: u64, k: usize) -> usize
+        requires page_value { page ≡ (item_at self.now.file.now k).page }
+        requires k_bound { k < usize.MAX }
+        ensures { FirstNoted (take self.now.held self.now.last) k result }
+    {
+        let Some(j) = self.scan(page) else {
+            return k + 1;
+        };
+        if self.last[j] as usize == k { k } else { k + 1 }
+    }
+
+    // The first item from k on that the filter may note: k if it does. The numbers on the chain of item k's page tell that, and where the chain is long
+    // the place of its page. Now and then all places are gone through there, and tell how far on the next one is: one such search serves all items up to it.
+    pub fn first_noted(&self, k: usize) -> usize
+        requires { 23 + 19 * (k + 1) ≤ length self.now.file.now }
+        ensures { FirstNoted (take self.now.held self.now.last) k result }
+    {
+        let x = trace::read::item_at(self.file, k);
+        let mut left = LINKS;
+        let mut at = self.newest(x.page);
+        while let Some(j) = at {
+            if self.last[j] as usize == k {
+                return k;
+            }
+            if left == 0 {
+                if k % FAR == 0 {
+                    return self.next_noted(k).unwrap_or(usize::MAX);
+                }
+                return self.noted_at_page(x.page, k);
+            }
+            left -= 1;
+            at = self.chains.link(j);
+        }
+        k + 1
+    }
+
+    // Place j notes item k, which has its page.
+    pub fn note(&mut self, j: usize, k: usize)
+        requires { CanNote self.old.file.now self.old.last self.old.held j k }
+        ensures last_after { self.new.last ≡ set self.old.last j k }
+        ensures file { self.new.file.now ≡ self.old.file.now }
+        ensures chains { self.new.chains ≡ self.old.chains }
+        ensures held { self.new.held ≡ self.old.held }
+        ensures base { self.new.base ≡ self.old.base }
+    {
+        self.last[j] = k as u32;
+    }
+
+    // One page more is held, that of item k.
+    pub fn add(&mut self, k: usize)
+        requires { CanAdd self.old.file.now self.old.last self.old.held k }
+        ensures last_after { self.new.last ≡ set self.old.last self.old.held k }
+        ensures heads_after { self.new.chains.heads ≡ heads_with self.old.base self.old.held (bucket_of (item_at self.old.file.now k).page) self.old.chains.heads }
+        ensures next_after { self.new.chains.next ≡ next_with self.old.base self.old.held (bucket_of (item_at self.old.file.now k).page) self.old.chains.heads self.old.chains.next }
+        ensures file { self.new.file.now ≡ self.old.file.now }
+        ensures held { self.new.held ≡ self.old.held + 1 }
+        ensures base { self.new.base ≡ self.old.base }
+        ensures holds { Holds self.new.file.now self.new.last self.new.held self.new.base self.new.chains.heads self.new.chains.next
+            (added (item_at self.old.file.now k).page (pages self.old)) }
+    {
+        let x = trace::read::item_at(self.file, k);
+        let v = self.chains.bucket(x.page);
+        self.chains.push(self.base, self.held, v);
+        self.last[self.held] = k as u32;
+        self.held += 1;
+    }
+
+    // No page is held any more. The heads stay while two bytes hold the numbers of a whole filter more, since no head is above the new base; else they are cleared.
+    pub fn empty(&mut self)
+        ensures base_after { self.new.base ≡ empty_base self.old.base self.old.held (length self.old.last) }
+        ensures heads_after { self.new.chains.heads ≡ empty_heads self.old.base self.old.held (length self.old.last) self.old.chains.heads }
+        ensures held { self.new.held ≡ 0 }
+        ensures file { self.new.file.now ≡ self.old.file.now }
+        ensures last { self.new.last ≡ self.old.last }
+        ensures next { self.new.chains.next ≡ self.old.chains.next }
+    {
+        self.base += self.held;
+        self.held = 0;
+        if self.base + self.last.len() > 65535 {
+            self.chains.clear();
+            self.base = 0;
+        }
+    }
 }

@@ -1,4 +1,4 @@
-// A cache as it is lent: a row of frames, most recent first. Its two columns are plain rows, and all work is done on those: only `load` and `save` touch a frame.
+// A cache as it is lent: a row of frames, most recent first. Its two columns are plain rows, and all work is done on those, as the scope asks: only `load` and `save` touch a frame.
 #![tactic(auto)]
 
 ghost use Rattle.std.specs.Prelude.{◌≡◌, ◌≤◌, length, take};
@@ -19,13 +19,11 @@ pub fn load(fs: &[Frame], pages: &mut [u64], written: &mut [bool])
     ensures { (pages.new ≡ pages_of (take (length pages.old) fs.now))
         × (written.new ≡ marks_of (take (length pages.old) fs.now)) }
 {
-    let n = pages.len();
-    let mut i = 0;
-    while i < n {
+    // By place: over zipped iterators that write, the proof did not close.
+    for i in 0..pages.len() {
         let f = fs[i];
         pages[i] = f.page;
         written[i] = f.written;
-        i = i + 1;
     }
 }
 
@@ -34,13 +32,11 @@ pub fn save(fs: &mut [Frame], pages: &[u64], written: &[bool])
     requires { (length pages.now ≤ length fs.old) × (length written.now ≡ length pages.now) }
     ensures { fs.new ≡ over (frames_of pages.now written.now) fs.old }
 {
-    let n = pages.len();
-    let mut i = 0;
-    while i < n {
+    // By place: over zipped iterators that write, the proof did not close.
+    for i in 0..pages.len() {
         fs[i] = Frame {
             page: pages[i],
             written: written[i],
         };
-        i = i + 1;
     }
 }

@@ -15,14 +15,14 @@ use Rattle.trace.specs.Rules.{ItemFits, Allowed}
 use Rattle.trace.specs.Check.{verdict}
 use Rattle.trace.specs.Promises.{AreBytes, Says}
 use Rattle.trace.specs.declared.Header.{Header}
-use Rattle.trace.specs.declared.Verdict.TheVariants.{Sound}
+use Rattle.trace.specs.Verdict.{Sound}
 use Rattle.trace.proofs.Allowed.{Facts, allowed_facts, facts_allowed, filter_most_lem}
 use Rattle.trace.proofs.Checking.{check_sound}
 use Rattle.trace.proofs.Accepted.{is_determined}
 use Rattle.trace.proofs.RoundTrip.{reads_back, is_taken}
 use Rattle.join.specs.Join.{joined_kind, joined_header, joined_file, judged}
 use Rattle.join.specs.Promises.{WritesJoined}
-use Rattle.join.specs.declared.Judged.TheVariants.{Passed}
+use Rattle.join.specs.Join.{Passed}
 use Rattle.join.proofs.Heading.{kind_whole}
 use Rattle.join.proofs.Joining.{Joinable, passed_joinable}
 use Rattle.join.proofs.Meeting.{rising_joined}

@@ -18,17 +18,17 @@ use Rattle.trace.specs.Verdict.{first}
 use Rattle.trace.specs.Check.{verdict}
 use Rattle.trace.specs.declared.Header.{Header}
 use Rattle.trace.specs.declared.Refusal.{Refusal}
-use Rattle.trace.specs.declared.Verdict.{Verdict}
-use Rattle.trace.specs.declared.Verdict.TheVariants.{Sound, Faulty}
+use Rattle.trace.specs.Verdict.{Verdict}
+use Rattle.trace.specs.Verdict.{Sound}
 use Rattle.trace.proofs.Allowed.{le_between}
 use Rattle.trace.proofs.Sound.{first_passed, passed_first}
 use Rattle.trace.proofs.Checking.{sound_file}
 use Rattle.trace.proofs.Items.{items_from_lem, length_from}
 use Rattle.trace.proofs.Output.{Wrote, wrote_then, wrote_file}
 use Rattle.join.specs.Join.{joined_header, joined_file, meets_falling, too_large, join_tests, judged, join_answer, join_out}
-use Rattle.join.specs.declared.Judged.{Judged}
-use Rattle.join.specs.declared.Judged.TheVariants.{Passed, Failed}
-use Rattle.join.specs.declared.Joined.TheVariants.{Written, Refused}
+use Rattle.join.specs.Join.{Judged}
+use Rattle.join.specs.Join.{Passed, Failed}
+use Rattle.std.specs.Prelude.{Ok, Err}
 
 -- ---- what it says that a join is not refused
 
@@ -51,22 +51,22 @@ not_both r e =
 abbrev in_turn : Verdict → Verdict → Verdict → Judged
 in_turn u v w =
     elim u [
-      | Faulty r ↦ Failed (row r)
-      | Sound ↦ elim v [
-        | Faulty r ↦ Failed (of_second (row r))
-        | Sound ↦ elim w [
-          | Faulty r ↦ Failed (row r)
-          | Sound ↦ Passed
+      | Err r ↦ Failed (row r)
+      | Ok _ ↦ elim v [
+        | Err r ↦ Failed (of_second (row r))
+        | Ok _ ↦ elim w [
+          | Err r ↦ Failed (row r)
+          | Ok _ ↦ Passed
         ]
       ]
     ]
 
 -- A join passes only where each of the three is sound.
 all_sound : (u v w : Verdict) → in_turn u v w ≡ Passed → (u ≡ Sound) × (v ≡ Sound) × (w ≡ Sound)
-all_sound Sound Sound Sound e = (refl, refl, refl)
-all_sound Sound Sound (Faulty r) e = absurd (not_both (row r) e)
-all_sound Sound (Faulty r) w e = absurd (not_both (of_second (row r)) e)
-all_sound (Faulty r) v w e = absurd (not_both (row r) e)
+all_sound (Ok _) (Ok _) (Ok _) e = (refl, refl, refl)
+all_sound (Ok _) (Ok _) (Err r) e = absurd (not_both (row r) e)
+all_sound (Ok _) (Err r) w e = absurd (not_both (of_second (row r)) e)
+all_sound (Err r) v w e = absurd (not_both (row r) e)
 
 -- And where each is, it passes.
 sound_all : (u v w : Verdict) → u ≡ Sound → v ≡ Sound → w ≡ Sound → in_turn u v w ≡ Passed
@@ -132,36 +132,35 @@ module _ (f g out : List ℕ) (v : judged f g (length out) ≡ Passed) where
   pub joining_room : (mid next : List ℕ) → length mid ≡ length out → length next ≡ length mid → 23 ≤ length next
   joining_room mid next d e = omega (arith, able.fits)
 
-  -- The items of the second file can be read.
-  pub joining_reads_more : {b : Header} → b ≡ header g → 23 + 19 * b.items ≤ length g
-  joining_reads_more q = rw q (omega (arith, second_is))
+  -- So can the items of the first file,
+  pub joining_reads : 23 + 19 * (header f).items ≤ length f
+  joining_reads = omega (arith, first_is)
 
-  module _ {a : Header} (p : a ≡ header f) where
-    -- So can those of the first.
-    pub joining_reads : 23 + 19 * a.items ≤ length f
-    joining_reads = rw p (omega (arith, first_is))
+  -- and of the second.
+  pub joining_reads_more : 23 + 19 * (header g).items ≤ length g
+  joining_reads_more = omega (arith, second_is)
 
-    -- And they can be written.
-    pub joining_fits : 23 + 19 * (0 + a.items) ≤ length out
+  module _ {n m : ℕ} (p : n ≡ (header f).items) (q : m ≡ (header g).items) where
+    -- Those of the first can be written,
+    pub joining_fits : 23 + 19 * (0 + n) ≤ length out
     joining_fits = rw p (omega (arith, able.fits))
 
-    module _ {b : Header} (q : b ≡ header g) where
-      -- Those of the second can be written behind them.
-      pub joining_fits_more : (next : List ℕ) → length next ≡ length out → 23 + 19 * (a.items + b.items) ≤ length next
-      joining_fits_more next e = rw (p, q) (omega (arith, able.fits))
+    -- and those of the second behind them.
+    pub joining_fits_more : (next : List ℕ) → length next ≡ length out → 23 + 19 * (n + m) ≤ length next
+    joining_fits_more next e = rw (p, q) (omega (arith, able.fits))
 
-      -- The output holds the file.
-      pub joining_file : {h : Header} → h ≡ joined_header f g → {mid next last : List ℕ} → mid ≡ sets out (23 + 19 * 0) (encode_items (items_from f 0 a.items))
-          → next ≡ sets mid (23 + 19 * a.items) (encode_items (items_from g 0 b.items)) → last ≡ sets next 0 (encode_header h) → last ≡ over (joined_file f g) out
-      unfolding joined_file
-      joining_file {h = h} d {mid = mid} {next = next} m n l =
-          let s = items_from f 0 a.items in
-          let t = items_from g 0 b.items in
-          let u : Wrote 0 s out mid = record { bytes_are = m } in
-          let w : Wrote a.items t mid next = record { bytes_are = n } in
-          let both : Wrote 0 (s ++ t) out next = wrote_then u (omega (arith, length_from f 0 a.items)) w in
-          let room : 23 + 19 * length (s ++ t) ≤ length out = rw (length-append, length_from f 0, length_from g 0, p, q) able.fits in
-          wrote_file h both room l ∙ rw (d, p, q, ← items_from_lem f, ← items_from_lem g)
+    -- The output holds the file.
+    pub joining_file : {h : Header} → h ≡ joined_header f g → {mid next last : List ℕ} → mid ≡ sets out (23 + 19 * 0) (encode_items (items_from f 0 n))
+        → next ≡ sets mid (23 + 19 * n) (encode_items (items_from g 0 m)) → last ≡ sets next 0 (encode_header h) → last ≡ over (joined_file f g) out
+    unfolding joined_file
+    joining_file {h = h} d {mid = mid} {next = next} a b l =
+        let s = items_from f 0 n in
+        let t = items_from g 0 m in
+        let u : Wrote 0 s out mid = record { bytes_are = a } in
+        let w : Wrote n t mid next = record { bytes_are = b } in
+        let both : Wrote 0 (s ++ t) out next = wrote_then u (omega (arith, length_from f 0 n)) w in
+        let room : 23 + 19 * length (s ++ t) ≤ length out = rw (length-append, length_from f 0, length_from g 0, p, q) able.fits in
+        wrote_file h both room l ∙ rw (d, p, q, ← items_from_lem f, ← items_from_lem g)
 
 -- ---- the answer
 
@@ -172,7 +171,7 @@ module _ (f g out : List ℕ) {v : Judged} (e : v ≡ judged f g (length out)) w
 
   module _ {r : Refusal} (q : v ≡ Failed r) where
     -- A refusal is told.
-    pub join_refused : Refused r ≡ join_answer f g (length out)
+    pub join_refused : Err r ≡ join_answer f g (length out)
     unfolding join_answer
     join_refused = rw (← e, q, join_answer)
 
@@ -183,7 +182,7 @@ module _ (f g out : List ℕ) {v : Judged} (e : v ≡ judged f g (length out)) w
 
   module _ (s : v ≡ Passed) where
     -- The header of what is written.
-    pub join_written : {h : Header} → h ≡ joined_header f g → Written h ≡ join_answer f g (length out)
+    pub join_written : {h : Header} → h ≡ joined_header f g → Ok h ≡ join_answer f g (length out)
     unfolding join_answer
     join_written q = rw (← e, s, q, join_answer)
 

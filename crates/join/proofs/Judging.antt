@@ -7,12 +7,8 @@ use native.Mathlib.Omega.{arith}
 use lib.ListN.{length}
 use lib.Dec.{ltb}
 use borrow.Author.Tests.{lt-ltb, le-ltb}
-use Rattle.limits.specs.Sizes.{between, items_of}
-use Rattle.limits.specs.declared.Items.{Items}
-use Rattle.limits.specs.declared.ItemsMade.{ItemsMade}
-use Rattle.limits.specs.declared.ItemsMade.TheVariants as made
+use Rattle.limits.specs.Sizes.{between}
 use Rattle.limits.proofs.Numbers.{items_least, items_most}
-use Rattle.limits.proofs.Made.{items_ready, items_outside}
 use Rattle.trace.specs.Layout.{header, item_at}
 use Rattle.trace.specs.Refusals.{row, of_second}
 use Rattle.trace.specs.Verdict.{first}
@@ -21,11 +17,11 @@ use Rattle.trace.specs.declared.Item.{Item}
 use Rattle.trace.specs.declared.Header.{Header}
 use Rattle.trace.specs.declared.Reason.{Reason}
 use Rattle.trace.specs.declared.Refusal.{Refusal}
-use Rattle.trace.specs.declared.Verdict.{Verdict}
-use Rattle.trace.specs.declared.Verdict.TheVariants.{Sound, Faulty}
+use Rattle.trace.specs.Verdict.{Verdict}
+use Rattle.trace.specs.Verdict.{Sound, Faulty}
 use Rattle.trace.proofs.Checking.{sound_file}
 use Rattle.join.specs.Join.{joined_header, meets_falling, too_large, join_tests, judged}
-use Rattle.join.specs.declared.Judged.TheVariants.{Passed, Failed}
+use Rattle.join.specs.Join.{Passed, Failed}
 
 -- ---- reading a sound file
 
@@ -83,13 +79,13 @@ module _ (f g : List ℕ) {r : Bool} (q : r ≡ meets_falling f g) where
 
 module _ (f g : List ℕ) {h : Header} (q : h ≡ joined_header f g) where
   -- There are too many items.
-  pub large_items : {r : ItemsMade} → r ≡ items_of items_least items_most h.items → r ≡ made.Outside → too_large f g ≡ true
+  pub large_items : between items_least items_most h.items ≡ false → too_large f g ≡ true
   unfolding too_large
-  large_items e o = rw (← q, items_outside items_least items_most h.items (sym o ∙ e))
+  large_items f = rw (← q, f)
 
-  module _ {r : ItemsMade} (e : r ≡ items_of items_least items_most h.items) (x : Items) (o : r ≡ made.Ready x) where
+  module _ (i : between items_least items_most h.items ≡ true) where
     few : between items_least items_most (joined_header f g).items ≡ true
-    few = rw (← q) (items_ready items_least items_most h.items (sym o ∙ e)).0
+    few = rw (← q) i
 
     -- There are too many references.
     pub large_references : 4294967295 < h.references → too_large f g ≡ true

@@ -16,7 +16,7 @@ use Rattle.trace.proofs.Octets.{octets_file}
 use Rattle.join.specs.Join.{joined_header, joined_file, judged}
 use Rattle.join.specs.Trees.{Tree, files, joined, items_of_all, SumsFit, Joins, header_of_all, IsJoinedTree, JoinsTrees, SumsAreEnough, JoinsAssociate}
 use Rattle.join.specs.Trees.Tree.{one, both}
-use Rattle.join.specs.declared.Judged.TheVariants.{Passed}
+use Rattle.join.specs.Join.{Passed}
 use Rattle.join.proofs.Joining.{joinable_passed, join_written, join_file}
 use Rattle.join.proofs.Meeting.{joined_rising}
 use Rattle.join.proofs.Accepted.{writes_joined}

@@ -11,9 +11,9 @@ use Rattle.trace.specs.Examples.{◌at◌, top, whole}
 use Rattle.trace.specs.declared.Header.{Header}
 use Rattle.trace.specs.declared.Item.{Item}
 use Rattle.trace.specs.declared.Reason.TheVariants.{JoinTooLarge}
-use Rattle.trace.specs.declared.Verdict.TheVariants.{Faulty}
+use Rattle.trace.specs.Verdict.{Faulty}
 use Rattle.join.specs.Join.{joined_kind, joined_header, joined_file, meets_falling, too_large, join_tests, judged, join_answer, join_out}
-use Rattle.join.specs.declared.Joined.TheVariants.{Written, Refused}
+use Rattle.std.specs.Prelude.{Ok, Err}
 
 -- ---- what is joined
 
@@ -52,10 +52,10 @@ headers : (
     ∷ join_answer (file 0 0 2 (0 at 10 ∷ top at 10 ∷ [])) (file 0 0 1 (top at 10 ∷ [])) 80
     ∷ []
     )
-    ≡ Written (heading 2 8 14 3)
-    ∷ Written (heading 2 8 14 3)
-    ∷ Written (heading 0 0 2 2)
-    ∷ Written (heading 0 0 3 3)
+    ≡ Ok (heading 2 8 14 3)
+    ∷ Ok (heading 2 8 14 3)
+    ∷ Ok (heading 0 0 2 2)
+    ∷ Ok (heading 0 0 3 3)
     ∷ []
 unfolding join_answer judged meets_falling too_large joined_header joined_kind
     encode encode_header encode_items encode_item tag_of field bytes verdict first ◌then◌ items_verdict is_field is_item allowed header item_at item number_at number
@@ -75,7 +75,7 @@ unfolding join_out judged meets_falling too_large joined_file joined_header join
 output = refl
 
 -- 11, "shorter than the joined file": 80 bytes are room, 79 are not.
-room : (join_answer earlier later 80 ∷ join_answer earlier later 79 ∷ []) ≡ Written (heading 2 8 14 3) ∷ Refused (refused 11 0) ∷ []
+room : (join_answer earlier later 80 ∷ join_answer earlier later 79 ∷ []) ≡ Ok (heading 2 8 14 3) ∷ Err (refused 11 0) ∷ []
 unfolding join_answer judged meets_falling too_large joined_header joined_kind
     encode encode_header encode_items encode_item tag_of field bytes verdict first ◌then◌ items_verdict is_field is_item allowed header item_at item number_at number
 room = refl
@@ -97,11 +97,11 @@ falling : (
     ∷ join_answer (file 0 0 0 []) (file 0 0 0 []) 80
     ∷ []
     )
-    ≡ Refused (refused 12 0)
-    ∷ Written (heading 1 8 6 3)
-    ∷ Written (heading 1 8 5 2)
-    ∷ Written (heading 2 3 9 1)
-    ∷ Written (heading 0 0 0 0)
+    ≡ Err (refused 12 0)
+    ∷ Ok (heading 1 8 6 3)
+    ∷ Ok (heading 1 8 5 2)
+    ∷ Ok (heading 2 3 9 1)
+    ∷ Ok (heading 0 0 0 0)
     ∷ []
 unfolding join_answer judged meets_falling too_large joined_header joined_kind
     encode encode_header encode_items encode_item tag_of field bytes verdict first ◌then◌ items_verdict is_field is_item allowed header item_at item number_at number
@@ -111,8 +111,8 @@ falling = refl
 
 -- "References over 4,294,967,295": a file of 4,294,967,290 references takes 5 more and not 6.
 references : map (λ (n : ℕ). join_answer (file 1 8 4294967290 (1 at 10 ∷ [])) (file 1 8 n (1 at 10 ∷ [])) 80) (5 ∷ 6 ∷ [])
-    ≡ Written (heading 1 8 4294967295 2)
-    ∷ Refused (refused 13 0)
+    ≡ Ok (heading 1 8 4294967295 2)
+    ∷ Err (refused 13 0)
     ∷ []
 unfolding join_answer judged meets_falling too_large joined_header joined_kind
     encode encode_header encode_items encode_item tag_of field bytes verdict first ◌then◌ items_verdict is_field is_item allowed header item_at item number_at number
@@ -141,11 +141,11 @@ second : map (λ (g : List ℕ). join_answer earlier g 0) (
     ∷ file 0 0 2 (3 at 5 ∷ 4 at 4 ∷ [])
     ∷ []
     )
-    ≡ Refused (of_second (refused 1 0))
-    ∷ Refused (of_second (refused 2 0))
-    ∷ Refused (of_second (refused 3 0))
-    ∷ Refused (record { number = 4; trace = 2; item = 1 })
-    ∷ Refused (record { number = 6; trace = 2; item = 1 })
+    ≡ Err (of_second (refused 1 0))
+    ∷ Err (of_second (refused 2 0))
+    ∷ Err (of_second (refused 3 0))
+    ∷ Err (record { number = 4; trace = 2; item = 1 })
+    ∷ Err (record { number = 6; trace = 2; item = 1 })
     ∷ []
 unfolding join_answer judged
     encode encode_header encode_items encode_item tag_of field bytes verdict first ◌then◌ items_verdict is_field is_item allowed header item number_at number
@@ -158,9 +158,9 @@ first_file : map (λ (f : List ℕ). join_answer f (take 22 later) 0) (
     ∷ file 0 0 2 (3 at 5 ∷ 4 at 4 ∷ [])
     ∷ []
     )
-    ≡ Refused (record { number = 2; trace = 1; item = 0 })
-    ∷ Refused (record { number = 4; trace = 1; item = 1 })
-    ∷ Refused (record { number = 6; trace = 1; item = 1 })
+    ≡ Err (record { number = 2; trace = 1; item = 0 })
+    ∷ Err (record { number = 4; trace = 1; item = 1 })
+    ∷ Err (record { number = 6; trace = 1; item = 1 })
     ∷ []
 unfolding join_answer judged
     encode encode_header encode_items encode_item tag_of field bytes verdict first ◌then◌ items_verdict is_field is_item allowed header item number_at number
@@ -175,9 +175,9 @@ order : (
     ∷ join_answer (file 1 8 4294967294 (1 at 10 ∷ [])) (file 1 8 1 (1 at 10 ∷ [])) 0
     ∷ []
     )
-    ≡ Refused (refused 12 0)
-    ∷ Refused (refused 13 0)
-    ∷ Refused (refused 11 0)
+    ≡ Err (refused 12 0)
+    ∷ Err (refused 13 0)
+    ∷ Err (refused 11 0)
     ∷ []
 unfolding join_answer judged meets_falling too_large joined_header joined_kind
     encode encode_header encode_items encode_item tag_of field bytes verdict first ◌then◌ items_verdict is_field is_item allowed header item_at item number_at number

@@ -1,5 +1,5 @@
 -- The answer of `join`, and the file that it writes. Assumes nothing.
-use Rattle.std.specs.Prelude.{ℕ, ◌+◌, ◌-◌, ◌*◌, ◌^◌, max, Bool, cond, not, ◌&&◌, ◌||◌, List, [], ◌∷◌, ◌++◌, length, ltb, eqb}
+use Rattle.std.specs.Prelude.{ℕ, ◌+◌, ◌-◌, ◌*◌, ◌^◌, max, Bool, cond, not, ◌&&◌, ◌||◌, List, [], ◌∷◌, ◌++◌, length, ltb, eqb, Result, Ok, Err}
 use Rattle.limits.specs.Sizes.{between}
 use Rattle.limits.proofs.Numbers.{items_least, items_most}
 use Rattle.pages.specs.Rows.{over}
@@ -8,12 +8,18 @@ use Rattle.trace.specs.Refusals.{row, of_second}
 use Rattle.trace.specs.Verdict.{Test, ◌⇒◌, first}
 use Rattle.trace.specs.Check.{verdict}
 use Rattle.trace.specs.declared.Header.{Header}
+use Rattle.trace.specs.declared.Refusal.{Refusal}
 use Rattle.trace.specs.declared.Reason.TheVariants.{JoinFalls, JoinTooLarge, NoRoom}
-use Rattle.trace.specs.declared.Verdict.TheVariants.{Sound, Faulty}
-use Rattle.join.specs.declared.Judged.{Judged}
-use Rattle.join.specs.declared.Judged.TheVariants.{Passed, Failed}
-use Rattle.join.specs.declared.Joined.{Joined}
-use Rattle.join.specs.declared.Joined.TheVariants.{Written, Refused}
+
+-- What is told of two files: that they can be joined, or a refusal.
+abbrev pub Judged : Type 0
+Judged = Result (Unit {0}) Refusal
+
+abbrev pub Passed : Judged
+Passed = Ok tt
+
+abbrev pub Failed : Refusal → Judged
+Failed r = Err r
 
 -- "Kind 0 if both are 0, kind 1 if neither is 2 and one is 1, otherwise kind 2."
 unfoldable pub joined_kind : ℕ → ℕ → ℕ
@@ -52,28 +58,28 @@ join_tests f g room =
 unfoldable pub judged : List ℕ → List ℕ → ℕ → Judged
 judged f g room =
     elim (verdict f) [
-      | Faulty r ↦ Failed (row r)
-      | Sound ↦ elim (verdict g) [
-        | Faulty r ↦ Failed (of_second (row r))
-        | Sound ↦ elim (first (join_tests f g room)) [
-          | Faulty r ↦ Failed (row r)
-          | Sound ↦ Passed
+      | Err r ↦ Failed (row r)
+      | Ok _ ↦ elim (verdict g) [
+        | Err r ↦ Failed (of_second (row r))
+        | Ok _ ↦ elim (first (join_tests f g room)) [
+          | Err r ↦ Failed (row r)
+          | Ok _ ↦ Passed
         ]
       ]
     ]
 
 -- The answer: the four header values of the joined file, or the refusal.
-unfoldable pub join_answer : List ℕ → List ℕ → ℕ → Joined
+unfoldable pub join_answer : List ℕ → List ℕ → ℕ → Result Header Refusal
 join_answer f g room =
     elim (judged f g room) [
-      | Passed ↦ Written (joined_header f g)
-      | Failed r ↦ Refused r
+      | Ok _ ↦ Ok (joined_header f g)
+      | Err r ↦ Err r
     ]
 
 -- The output afterwards: the joined file, and beyond it what there was; a refused call changes nothing.
 unfoldable pub join_out : List ℕ → List ℕ → List ℕ → List ℕ
 join_out f g out =
     elim (judged f g (length out)) [
-      | Passed ↦ over (joined_file f g) out
-      | Failed r ↦ out
+      | Ok _ ↦ over (joined_file f g) out
+      | Err r ↦ out
     ]

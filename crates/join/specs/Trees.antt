@@ -9,7 +9,7 @@ use Rattle.trace.specs.Promises.{IsFile}
 use Rattle.trace.specs.declared.Item.{Item}
 use Rattle.trace.specs.declared.Header.{Header}
 use Rattle.join.specs.Join.{joined_header, joined_file, join_answer, join_out}
-use Rattle.join.specs.declared.Joined.TheVariants.{Written}
+use Rattle.std.specs.Prelude.{Ok}
 
 -- ---- the file that a tree of joins comes to
 
@@ -48,7 +48,7 @@ Within (both l r) = SumsFit (joined l) (joined r) × Within l × Within r
 
 -- A join is not refused, whatever output it has that is not "shorter than the joined file": it answers the header, and writes the file over the output's front.
 pub record Joins (f g : List ℕ) : Type 0 where
-  pub answers : (out : List ℕ) → length (joined_file f g) ≤ length out → join_answer f g (length out) ≡ Written (joined_header f g)
+  pub answers : (out : List ℕ) → length (joined_file f g) ≤ length out → join_answer f g (length out) ≡ Ok (joined_header f g)
   pub writes : (out : List ℕ) → length (joined_file f g) ≤ length out → join_out f g out ≡ over (joined_file f g) out
 
 -- No join of a tree is refused that has room.

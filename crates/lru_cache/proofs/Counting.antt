@@ -1,9 +1,11 @@
 -- What the tally counts, and what fetches per million items are. Assumes nothing.
-use Prim.Native.Nat.{ℕ, zero, suc, ◌+◌, ◌*◌, ◌/◌, ◌≤◌}
+use Prim.Native.Nat.{ℕ, zero, suc, ◌+◌, ◌*◌, ◌/◌, ◌≤◌, ◌<◌}
 use mathlib.Core.Path.{◌≡◌, refl}
 use mathlib.Core.Bool.{Bool, true, false}
 use mathlib.Core.List.{List, [], ◌∷◌, ◌++◌, get_last?}
 use mathlib.Core.Option.{Option, some, none}
+use Rattle.std.specs.Prelude.{Option as Maybe, Some, None, SomeIff}
+use Rattle.std.specs.Option.{unwrap_or}
 use native.Mathlib.Nat.{zero-add, add_assoc, div-mul-le_self, div-lt_iff_lt-mul}
 use native.Mathlib.Omega.{arith}
 use lib.ListN.{length, length-append}
@@ -14,16 +16,11 @@ use Rattle.frames.specs.Frames.{pages_of}
 use Rattle.frames.specs.declared.Frame.{Frame}
 use Rattle.trace.specs.declared.Item.{Item}
 use Rattle.lru_cache.specs.Lru.{Event, fetched, hit, fetch, step, ◌then◌, replay}
-use Rattle.lru_cache.specs.Tally.{one_of, nothing, counted_of, is_fetch, is_eviction, tallied, tally, per_million}
+use Rattle.lru_cache.specs.Tally.{one_of, nothing, is_fetch, is_eviction, tallied, tally, per_million}
 use Rattle.lru_cache.specs.Promises.{evictions, TallyCounts, PerMillionIs}
 use Rattle.lru_cache.specs.declared.Tally.{Tally}
 
 -- ---- an item
-
--- The counts that the code adds up are the tally with one item more.
-pub counted_is : (t : Tally) (f e : Bool) {a b : ℕ} → a ≡ one_of f → b ≡ one_of e
-    → record { items = t.items + 1; fetches = t.fetches + a; evictions = t.evictions + b } ≡ counted_of t f e
-counted_is t f e p q = rw (p, q)
 
 -- A test counts at most once.
 pub one_most : (b : Bool) → one_of b ≤ 1
@@ -93,13 +90,10 @@ fetches_few K s (i ∷ t) =
     let o = step K s i in
     omega (arith, length-append o.events (replay K o.final t).events, (step_flagged K s i).fetches_are, one_most (is_fetch o.events), fetches_few K o.final t)
 
--- ---- per million
-
-pub rate_none : (fetches items : ℕ) → items ≡ 0 → 0 ≡ per_million fetches items
+-- A quotient where there is one, and else 0.
+pub rate_is : (fetches items : ℕ) (r : Maybe ℕ) → SomeIff r (0 < items) (fetches * 1000000 / items) → unwrap_or r 0 ≡ per_million fetches items
 unfolding per_million
-rate_none fetches items e = rw e
-
-pub rate_some : (fetches items : ℕ) → (items ≡ 0 → ⊥) → fetches * 1000000 / items ≡ per_million fetches items
-unfolding per_million
-rate_some fetches zero n = absurd (n refl)
-rate_some fetches (suc k) n = refl
+rate_is fetches zero None n = refl
+rate_is fetches zero (Some x) q = absurd (omega (arith, q.0))
+rate_is fetches (suc k) None n = absurd (n (omega arith))
+rate_is fetches (suc k) (Some x) q = q.1

@@ -1,14 +1,13 @@
 -- What one item does, in the code's terms: a page that is found, one that comes in, or one that comes in the last one's place. Assumes nothing.
-use Prim.Native.Nat.{ℕ, ◌+◌, ◌*◌, ◌<◌, ◌≤◌}
-use mathlib.Core.Path.{◌≡◌, refl, sym, ap, ◌∙◌}
-use mathlib.Core.Bool.{Bool, true, false, ◌||◌}
+use Prim.Native.Nat.{ℕ, suc, ◌+◌, ◌<◌, ◌≤◌}
+use mathlib.Core.Path.{◌≡◌, refl, sym, ap, subst, ◌∙◌}
+use mathlib.Core.Bool.{Bool, true, false, ◌||◌, false≢true}
 use mathlib.Core.List.{List, [], ◌∷◌, drop_last, get_last?}
 use mathlib.Core.Option.{none}
 use native.Mathlib.Omega.{arith}
 use lib.ListN.{length}
-use lib.Seq.{sets}
-use lib.Dec.{leb, ltb}
-use borrow.Author.Tests.{le-ltb, lt-ltb, ltb-true, ltb-false, leb-true, leb-false}
+use lib.Dec.{ltb}
+use borrow.Author.Tests.{le-ltb, lt-ltb, ltb-true, ltb-false}
 use Rattle.pages.specs.Pages.{has}
 use Rattle.pages.proofs.Choice.{split}
 use Rattle.pages.proofs.Pages.{has_init}
@@ -16,15 +15,17 @@ use Rattle.frames.specs.Frames.{framed, pages_of, dirty, taken}
 use Rattle.frames.specs.declared.Frame.{Frame}
 use Rattle.frames.proofs.Columns.{pages_init}
 use Rattle.frames.proofs.By.{dirty_absent, taken_absent}
+use Rattle.std.specs.Prelude.{Option, Some, None, is_some}
+use Rattle.chains.specs.Chains.{counted}
 use Rattle.recency.specs.Linked.{last_from}
-use Rattle.recency.specs.Held.{frames, Holds, CanUse, Gone}
-use Rattle.recency.specs.declared.Queue.{Queue}
-use Rattle.recency.specs.declared.Evicted.{Evicted}
-use Rattle.recency.proofs.Appending.{has-frames, length-frames, gone_held, last_later}
+use Rattle.recency.specs.Held.{frames, Holds, CanUse}
+use Rattle.recency.specs.declared.Log.{Log}
+use Rattle.recency.proofs.Appending.{has-frames, length-frames, gone_held, found_low, last_later}
 use Rattle.trace.specs.declared.Item.{Item}
 use Rattle.lru_cache.specs.Lru.{step, hit, fetch, fetched, words, word, cost}
 use Rattle.lru_cache.specs.Tally.{is_fetch, is_eviction}
-use Rattle.lru_cache.specs.Passes.{cost_of, CanMake, Made, CanStep, Stepped}
+use Rattle.lru_cache.specs.Passes.{Went, Made, Ready, Stepped}
+use Rattle.lru_cache.specs.declared.Fetch.{Fetch}
 use Rattle.lru_cache.proofs.Room.{taken-count}
 
 -- ---- the three cases
@@ -43,8 +44,8 @@ module _ (K : ℕ) (x : Item) (s : List Frame) where
     unfolding step fetch
     step_full f = rw (h, le-ltb (length s) K f)
 
--- How many pages the rows hold.
-holds_count : {s : List Frame} {log next stale heads : List ℕ} {q : Queue} → Holds s log next stale heads q → length s ≡ q.resident
+-- How many pages the log holds.
+holds_count : {s : List Frame} {l : Log} → Holds s l → length s ≡ l.queue.resident
 holds_count h = ap length (sym h.frames_are) ∙ length-frames h.held
 
 -- All but the last of a list that has one.
@@ -57,111 +58,126 @@ init_count (f ∷ g ∷ s) h = omega (arith, init_count (g ∷ s) (omega arith))
 came_in : (p : ℕ) (w : Bool) (s : List Frame) → has p (pages_of s) ≡ false → framed p (dirty p s || w) ∷ taken p s ≡ framed p w ∷ s
 came_in p w s h = rw (dirty_absent p s h, taken_absent p s h)
 
--- ---- room made
+-- ---- where the page is
 
-module _ {K : ℕ} {log stale : List ℕ} {q : Queue} (can : CanMake K log stale q) {e : ℕ} where
-  pub made_found : q.low < e → Made K e log stale q (record { queue = q; page = 0; written = false })
-  made_found h = record { found = λ _. refl; room = λ m r. absurd (omega arith); full = λ m r. absurd (omega arith) }
+by_found : {C : Type 0} (o : Option ℕ) → (o ≡ None → C) → ((j : ℕ) → o ≡ Some j → C) → C
+by_found None n s = n refl
+by_found (Some j) n s = s j refl
 
-  module _ (m : e ≤ q.low) where
-    pub made_room : q.resident < K → Made K e log stale q (record { queue = q; page = 0; written = false })
-    made_room h = record { found = λ f. absurd (omega arith); room = λ m r. (refl, refl); full = λ m r. absurd (omega arith) }
+-- ---- each case in the log, from what the code knows there
 
-    module _ (h : K ≤ q.resident) where
-      pub made_full : {r : Evicted} → Gone log stale q r → Made K e log stale q r
-      made_full g = record { found = λ f. absurd (omega arith); room = λ m r. absurd (omega arith); full = λ m r. g }
-
--- ---- each case in the rows, from what the code knows there
-
-module _ {K f : ℕ} {log next stale heads : List ℕ} {q : Queue} {events : List ℕ} (can : CanStep K f log next stale heads q events)
-    (x : Item) {e : ℕ} (k : e ≡ last_from q.low log q.now x.page) {g : Evicted} (made : Made K e log stale q g) where
+module _ {K : ℕ} {l : Log} (ready : Ready K l) (x : Item) {o : Option ℕ} (k : counted o ≡ last_from l.queue.low l.pages l.queue.now x.page) {l' : Log} {g : Option Frame} (made : Made K o l l' g) where
   abbrev now : List Frame
-  now = frames log stale q
+  now = frames l
 
-  count : length now ≡ q.resident
-  count = length-frames can.ready.held
+  count : length now ≡ l.queue.resident
+  count = length-frames ready.held
 
-  as_was : {p : Queue} → p ≡ q → CanUse log next stale heads p x.page e
-  as_was z = rw z (record { held = can.ready.held; last = k; few = omega (arith, can.ready.small, can.ready.within) })
+  as_was : l' ≡ l → CanUse l' x.page o
+  as_was z = rw z (record { held = ready.held; last_is = k; few = omega (arith, ready.small, ready.within) })
 
-  away : e ≤ q.low → has x.page (pages_of now) ≡ false
-  away m = has-frames can.ready.held x.page k ∙ le-ltb q.low e m
+  none_is : o ≡ None → 0 ≡ last_from l.queue.low l.pages l.queue.now x.page
+  unfolding counted
+  none_is e = rw e at k
 
-  left : Gone log stale q g → K ≤ q.resident → length (frames log stale g.queue) + 1 ≡ q.resident
-  left gone h = rw gone.frames_are (init_count now (omega (arith, count, can.ready.some)) ∙ count)
+  away : o ≡ None → has x.page (pages_of now) ≡ false
+  away e = has-frames ready.held x.page (none_is e) ∙ le-ltb l.queue.low 0 (omega arith)
+
+  here : {j : ℕ} → o ≡ Some j → has x.page (pages_of now) ≡ true
+  unfolding counted
+  here {j} e =
+      let z : suc j ≡ last_from l.queue.low l.pages l.queue.now x.page = rw e at k in
+      has-frames ready.held x.page z ∙ lt-ltb l.queue.low (suc j) (omega (arith, found_low l.queue.low l.pages l.queue.now x.page z))
+
+  module _ (w : Went l l' g) (h : K ≤ l.queue.resident) where
+    -- The log without the last one.
+    abbrev without : Log
+    without = record l { queue = l'.queue }
+
+    left : length (frames without) + 1 ≡ l.queue.resident
+    left = rw w.left.frames_are (init_count now (omega (arith, count, ready.some)) ∙ count)
+
+    use_without : o ≡ None → CanUse without x.page o
+    unfolding counted
+    use_without e =
+        let held = gone_held ready.held w.left in
+        record {
+          held = held;
+          last_is = rw (e, w.left.now_is) (last_later l.queue.low l'.queue.low l.pages l.queue.now x.page (none_is e) (omega arith) w.left.from);
+          few = omega (arith, length-frames held, left, ready.within, ready.small);
+        }
 
   -- The page can be used where room was made.
-  pub step_use : CanUse log next stale heads g.queue x.page e
+  pub step_use : CanUse l' x.page o
   step_use =
-      split (ltb q.low e)
-      (λ t. as_was (made.found (ltb-true q.low e t)))
-      (λ t.
-      let m = ltb-false q.low e t in
-      split (ltb q.resident K)
-      (λ r. as_was (made.room m (ltb-true q.resident K r)).0)
+      by_found o
+      (λ e. split (ltb l.queue.resident K)
+      (λ r. as_was (made.room (ltb-true l.queue.resident K r)).same)
       (λ r.
-      let h = ltb-false q.resident K r in
-      let gone = made.full m h in
-      record {
-        held = gone_held can.ready.held gone;
-        last = rw gone.now_is (last_later q.low g.queue.low log q.now x.page k m gone.from);
-        few = omega (arith, length-frames (gone_held can.ready.held gone), left gone h, can.ready.within, can.ready.small);
-      }))
+      let h = ltb-false l.queue.resident K r in
+      let w = made.full e h in
+      subst (λ (m : Log). CanUse m x.page o) (sym w.rest) (use_without w h e)))
+      (λ j e. as_was (made.found j e).same)
 
-  module _ {log' next' stale' heads' : List ℕ} {v : Queue}
-      (u : Holds (framed x.page (dirty x.page (frames log stale g.queue) || x.written) ∷ taken x.page (frames log stale g.queue)) log' next' stale' heads' v) where
+  module _ {l'' : Log} (u : Holds (framed x.page (dirty x.page (frames l') || x.written) ∷ taken x.page (frames l')) l'') where
     -- It was found.
-    pub stepped_hit : q.low < e
-        → Stepped (step K now x) K f events (record { queue = v; fetched = false; evicted = false }) log' next' stale' heads' events
+    pub stepped_hit : is_some o ≡ true → Stepped (step K now x) K None l''
     unfolding words is_fetch is_eviction
-    stepped_hit h =
-        let t : has x.page (pages_of now) ≡ true = has-frames can.ready.held x.page k ∙ lt-ltb q.low e h in
-        let w = rw (made.found h) at u in
+    stepped_hit s =
+        by_found o
+        (λ e. absurd (false≢true (rw e at s)))
+        (λ j e.
+        let t = here e in
+        let w = rw (made.found j e).same at u in
         rw (step-hit K x now t)
         (record {
           holds = w;
-          within = omega (arith, holds_count w, taken-count x.page now t, count, can.ready.within);
-          events_are = refl;
+          within = omega (arith, holds_count w, taken-count x.page now t, count, ready.within);
+          told_is = refl;
           fetched_is = refl;
           evicted_is = refl;
-        })
+        }))
 
     -- It came in.
-    module _ (m : e ≤ q.low) {c : ℕ} {events' : List ℕ} (d : c ≡ cost_of (leb K q.resident) g.written)
-        (t : events' ≡ sets events (4 * f) (x.time ∷ x.page ∷ g.page ∷ c ∷ [])) where
-      came_room : (b : leb K q.resident ≡ false)
-          → Stepped (step K now x) K f events (record { queue = v; fetched = true; evicted = false }) log' next' stale' heads' events'
-      unfolding words word cost is_fetch is_eviction
-      came_room b =
-          let h = leb-false K q.resident b in
-          let r = made.room m h in
-          let z = rw r.0 at u in
-          let w = rw (came_in x.page x.written now (away m)) at z in
-          let y : c ≡ 0 = rw b at d in
-          rw (step_room K x now (away m) (omega (arith, count)))
-          (record { holds = w; within = omega (arith, holds_count w, count); events_are = rw (y, r.1) at t; fetched_is = refl; evicted_is = refl })
+    module _ (i : is_some o ≡ false) where
+      e : o ≡ None
+      e = by_found o (λ n. n) (λ j n. absurd (false≢true (sym i ∙ rw n)))
 
-      came_full : (b : leb K q.resident ≡ true)
-          → Stepped (step K now x) K f events (record { queue = v; fetched = true; evicted = true }) log' next' stale' heads' events'
+      abbrev came : Option Frame → Option Fetch
+      came gone = Some (record { time = x.time; page = x.page; gone = gone })
+
+      came_room : l.queue.resident < K → Stepped (step K now x) K (came None) l''
       unfolding words word cost is_fetch is_eviction
-      came_full b =
-          let h = leb-true K q.resident b in
-          let gone = made.full m h in
-          let n : has x.page (pages_of (drop_last now)) ≡ false = rw (pages_init now) (has_init x.page (pages_of now) (away m)) in
-          let z = rw gone.frames_are at u in
+      came_room h =
+          let r = made.room h in
+          let z = rw r.same at u in
+          let w = rw (came_in x.page x.written now (away e)) at z in
+          rw (step_room K x now (away e) (omega (arith, count)))
+          (record { holds = w; within = omega (arith, holds_count w, count); told_is = refl; fetched_is = refl; evicted_is = refl })
+
+      came_full : (h : K ≤ l.queue.resident) → Stepped (step K now x) K (came (Some (made.full e h).frame)) l''
+      unfolding words word cost is_fetch is_eviction
+      came_full h =
+          let m = made.full e h in
+          let n : has x.page (pages_of (drop_last now)) ≡ false = rw (pages_init now) (has_init x.page (pages_of now) (away e)) in
+          let k : frames l' ≡ drop_last now = ap frames m.rest ∙ m.left.frames_are in
+          let z = rw k at u in
           let w = rw (came_in x.page x.written (drop_last now) n) at z in
-          let y = rw b at d in
-          rw (step_full K x now (away m) (omega (arith, count)), gone.last_is)
+          rw (step_full K x now (away e) (omega (arith, count)), m.left.last_is)
           (record {
             holds = w;
-            within = omega (arith, holds_count w, rw gone.frames_are at (left gone h), can.ready.within);
-            events_are = rw y at t;
+            within = omega (arith, holds_count w, rw m.left.frames_are at (left m h), ready.within);
+            told_is = refl;
             fetched_is = refl;
             evicted_is = refl;
           })
 
-      pub stepped_fetch : Stepped (step K now x) K f events (record { queue = v; fetched = true; evicted = leb K q.resident }) log' next' stale' heads' events'
+      pub stepped_fetch : Stepped (step K now x) K (came g) l''
       stepped_fetch =
-          split (leb K q.resident)
-          (λ y. rw y (came_full y))
-          (λ y. rw y (came_room y))
+          split (ltb l.queue.resident K)
+          (λ b.
+          let h = ltb-true l.queue.resident K b in
+          subst (λ (y : Option Frame). Stepped (step K now x) K (came y) l'') (sym (made.room h).gone_is) (came_room h))
+          (λ b.
+          let h = ltb-false l.queue.resident K b in
+          subst (λ (y : Option Frame). Stepped (step K now x) K (came y) l'') (sym (made.full e h).gone_is) (came_full h))

@@ -3,7 +3,6 @@ pub mod Order
 pub mod Linking
 pub mod Counting
 pub mod Places
-pub mod Indexing
 pub mod Packing
 pub mod Aging
 pub mod Copying

@@ -15,7 +15,9 @@ use Rattle.pages.proofs.Table.{has-get_or, get_or-place, place_within}
 use Rattle.chains.specs.Chains.{at, newest}
 use Rattle.chains.proofs.Newest.{newest-at, newest_beyond, newest_same}
 use Rattle.recency.specs.Linked.{last_from}
-use Rattle.recency.specs.Held.{part, wrote}
+use Rattle.recency.specs.declared.Mark.{Mark}
+use Rattle.recency.specs.declared.Mark.TheVariants.{Clean}
+use Rattle.recency.specs.Held.{part, is_written, wrote}
 
 module _ (log : List ℕ) (low end p : ℕ) (behind : low ≤ end) (within : end ≤ length log) where
   reads : (j : ℕ) → low + j < end → get_or (part log low end) j 0 ≡ get_or log (low + j) 0
@@ -64,8 +66,8 @@ module _ (log : List ℕ) (low end : ℕ) (within : end ≤ length log) where
       rw (z, lt-ltb low (r + 1) (omega arith))
 
   -- It says whether the page was written.
-  pub wrote_live : (stale : List ℕ) (r : ℕ) → low ≤ r → r < end → has (get_or log r 0) (drop (r + 1) (take end log)) ≡ false
-      → wrote log stale low end (get_or log r 0) ≡ eqb (get_or stale r 0) 2
+  pub wrote_live : (stale : List Mark) (r : ℕ) → low ≤ r → r < end → has (get_or log r 0) (drop (r + 1) (take end log)) ≡ false
+      → wrote log stale low end (get_or log r 0) ≡ is_written (get_or stale r Clean)
   unfolding wrote
   wrote_live stale r f h n = let z : r + 1 - 1 ≡ r = omega arith in rw (last_live r f h n, z)
 
@@ -77,7 +79,7 @@ module _ (log : List ℕ) (low end : ℕ) (within : end ≤ length log) where
       let u = ltb-true low' e (sym (has_last log low' end p b within) ∙ h) in
       rw (lt-ltb low' e u, lt-ltb low e (omega arith))
 
-  pub wrote_same : (stale : List ℕ) (low' p : ℕ) → low ≤ low' → low' ≤ end → has p (part log low' end) ≡ true → wrote log stale low' end p ≡ wrote log stale low end p
+  pub wrote_same : (stale : List Mark) (low' p : ℕ) → low ≤ low' → low' ≤ end → has p (part log low' end) ≡ true → wrote log stale low' end p ≡ wrote log stale low end p
   unfolding wrote
   wrote_same stale low' p o b h = rw (last_same low' p o b h)
 

@@ -2,17 +2,11 @@
 #![tactic(auto)]
 
 use limits::Input;
-use reading::read_full;
+use reading::{answered, written};
 use std::io;
 
 fn main(rt: HostRuntime) -> io::Result<()> {
-    // One byte more than a program takes, so that a longer input is seen to be longer.
-    let mut input = [0u8; Input::PLACES + 1];
-    let n = read_full(&mut rt.stdin(), &mut input)?;
     let mut out = [0u8; Input::PLACES];
-    let m = lines::reduce::program(&input[..n], &mut out);
-    if rt.write_all(&out[..m]).is_err() {
-        eprintln!(rt; "reduce: the output is not written whole")?;
-    }
-    Ok(())
+    let m = answered(&mut rt.stdin(), &mut out, lines::reduce::program)?;
+    written(&rt, "reduce", &out[..m])
 }

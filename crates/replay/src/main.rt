@@ -1,18 +1,12 @@
 // Reads a settings field and a trace from standard input, and writes the lines of the replay, or that of the refusal.
 #![tactic(auto)]
 
-use limits::Input;
-use reading::read_full;
+use lines::replay::ROOM;
+use reading::{answered, written};
 use std::io;
 
 fn main(rt: HostRuntime) -> io::Result<()> {
-    // One byte more than a program takes, so that a longer input is seen to be longer.
-    let mut input = [0u8; Input::PLACES + 1];
-    let n = read_full(&mut rt.stdin(), &mut input)?;
-    let mut out = [0u8; lines::replay::ROOM];
-    let m = lines::replay::program(&input[..n], &mut out);
-    if rt.write_all(&out[..m]).is_err() {
-        eprintln!(rt; "replay: the output is not written whole")?;
-    }
-    Ok(())
+    let mut out = [0u8; ROOM];
+    let m = answered(&mut rt.stdin(), &mut out, lines::replay::program)?;
+    written(&rt, "replay", &out[..m])
 }

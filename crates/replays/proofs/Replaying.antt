@@ -16,8 +16,8 @@ use Rattle.trace.specs.Refusals.{row}
 use Rattle.trace.specs.declared.Header.{Header}
 use Rattle.trace.specs.declared.Reason.{Reason}
 use Rattle.trace.specs.declared.Refusal.{Refusal}
-use Rattle.trace.specs.declared.Verdict.{Verdict}
-use Rattle.trace.specs.declared.Verdict.TheVariants.{Sound, Faulty}
+use Rattle.std.specs.Prelude.{Ok, Err}
+use Rattle.trace.specs.Verdict.{Verdict, Sound, Faulty}
 use Rattle.trace.proofs.Allowed.{allowed_facts}
 use Rattle.trace.proofs.Checking.{sound_file}
 use Rattle.trace.proofs.Items.{items_from_lem, length_from}
@@ -25,9 +25,9 @@ use Rattle.lru_cache.specs.Lru.{replay, words}
 use Rattle.lru_cache.specs.Tally.{nothing, tally, per_million}
 use Rattle.replays.specs.Replay.{bad_start, replay_verdict, replay_of, summary_of, replay_answer, frames_after, events_after}
 use Rattle.lru_cache.specs.Passes.{CanRun, Ran}
-use Rattle.lru_cache.specs.declared.Finish.{Finish}
+use Rattle.lru_cache.specs.declared.Tally.{Tally}
+use Rattle.recency.specs.declared.Log.{Log}
 use Rattle.replays.specs.declared.Summary.{Summary}
-use Rattle.replays.specs.declared.Replayed.TheVariants.{Done, Refused}
 use Rattle.lru_cache.proofs.Counting.{tally_counts, fetches_few}
 use Rattle.replays.proofs.Judging.{Playable, sound_playable}
 use Rattle.replays.proofs.Fine.{starts_fine}
@@ -49,7 +49,7 @@ module _ (f : List ℕ) (K : ℕ) (cache : List ℕ) (kept : List Bool) (residen
     -- ---- a refusal is told, and changes nothing
 
     module _ {r : Reason} (q : v ≡ Faulty r) where
-      pub refused-answer : {a : Refusal} → a ≡ row r → Refused a resident ≡ replay_answer f K frames resident (length events)
+      pub refused-answer : {a : Refusal} → a ≡ row r → Err (record { refusal = a; resident = resident }) ≡ replay_answer f K frames resident (length events)
       unfolding replay_answer
       refused-answer t = rw (judged, q, t, replay_answer)
 
@@ -71,7 +71,7 @@ module _ (f : List ℕ) (K : ℕ) (cache : List ℕ) (kept : List Bool) (residen
       pub done_sound : replay_verdict f K cache resident (length events) ≡ Sound
       done_sound = sym e ∙ s
 
-      pub done_answer : {a : Summary} → a ≡ summary_of f K frames resident → Done a ≡ replay_answer f K frames resident (length events)
+      pub done_answer : {a : Summary} → a ≡ summary_of f K frames resident → Ok a ≡ replay_answer f K frames resident (length events)
       unfolding replay_answer
       done_answer t = rw (judged, s, t, replay_answer)
 
@@ -96,19 +96,18 @@ module _ (f : List ℕ) (K : ℕ) (cache : List ℕ) (kept : List Bool) (residen
     long : length f ≡ 23 + 19 * (header f).items
     long = (sound_file f able.file_is).long
 
-    -- The header can be read.
-    pub played_long : 23 ≤ length f
+    -- The items can be read.
+    pub played_long : 23 + 19 * (header f).items ≤ length f
     played_long = omega (arith, long)
 
-    module _ {h : Header} (q : h ≡ header f) where
+    module _ {n : ℕ} (q : n ≡ (header f).items) where
       -- The loop may begin.
-      pub played_run : CanRun f h.items K resident cache kept events
+      pub played_run : CanRun n K resident cache kept events
       played_run =
           let a = able in
           let b : bad_start K (pages_of frames) resident ≡ false = rw pages_are a.start_is in
           let d : Distinct (pages_of (take resident frames)) = (starts_fine K frames resident b).distinct in
           rw q (record {
-            file_long = omega (arith, long);
             few = (allowed_facts (header f) (sound_file f a.file_is).keeps).few;
             some = a.least;
             most = a.most;
@@ -119,23 +118,23 @@ module _ (f : List ℕ) (K : ℕ) (cache : List ℕ) (kept : List Bool) (residen
             room = a.fits;
           })
 
-      module _ {r : Finish} {cache' : List ℕ} {kept' : List Bool} {events' : List ℕ}
-          (d : Ran (replay K (take resident frames) (items_from f 0 h.items)) (tally K (take resident frames) nothing (items_from f 0 h.items))
-          cache kept events r cache' kept' events') where
-        items_are : items_from f 0 h.items ≡ items f
+      module _ {r : Tally} {log' : Log} {cache' : List ℕ} {kept' : List Bool} {events' : List ℕ}
+          (d : Ran (replay K (take resident frames) (items_from f 0 n)) (tally K (take resident frames) nothing (items_from f 0 n))
+          cache kept events r log' cache' kept' events') where
+        items_are : items_from f 0 n ≡ items f
         items_are = rw (q, items_from_lem f)
 
         -- There are no more fetches than items.
-        pub played_few : r.tally.fetches ≤ items_most
+        pub played_few : r.fetches ≤ items_most
         played_few =
-            let t = items_from f 0 h.items in
+            let t = items_from f 0 n in
             let c = tally_counts K (take resident frames) t in
-            let n = played_run in
-            rw d.tally_is (omega (arith, fetches_few K (take resident frames) t, length_from f 0 h.items, n.few))
+            let can = played_run in
+            rw d.tally_is (omega (arith, fetches_few K (take resident frames) t, length_from f 0 n, can.few))
 
         -- The answer is the tally, the residents and the rate.
-        pub played_summary : {p : ℕ} → p ≡ per_million r.tally.fetches r.tally.items
-            → ◌≡◌ {A = Summary} (record { items = r.tally.items; fetches = r.tally.fetches; evictions = r.tally.evictions; resident = r.resident; permillion = p })
+        pub played_summary : {p : ℕ} → p ≡ per_million r.fetches r.items
+            → ◌≡◌ {A = Summary} (record { items = r.items; fetches = r.fetches; evictions = r.evictions; resident = log'.queue.resident; permillion = p })
             (summary_of f K frames resident)
         unfolding summary_of replay_of
         played_summary w = rw (w, d.tally_is, d.resident_is, items_are)

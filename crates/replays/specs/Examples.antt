@@ -1,5 +1,5 @@
 -- Replays of the file of the paper's trace T, and some that are refused, by computation. Assumes nothing.
-use Rattle.std.specs.Prelude.{ℕ, ◌≡◌, refl, true, false, List, [], ◌∷◌, take, replicate}
+use Rattle.std.specs.Prelude.{ℕ, ◌≡◌, refl, true, false, List, [], ◌∷◌, take, replicate, Result, Ok, Err}
 use Rattle.pages.specs.Rows.{over}
 use Rattle.pages.specs.Pages.{has}
 use Rattle.frames.specs.Frames.{framed, dirty, taken}
@@ -15,7 +15,13 @@ use Rattle.trace.specs.Examples.{◌at◌, top, whole, file_T}
 use Rattle.lru_cache.specs.Lru.{hit, fetch, step, ◌then◌, replay, word, cost, words}
 use Rattle.lru_cache.specs.Tally.{is_fetch, is_eviction, tallied, tally, per_million}
 use Rattle.replays.specs.Replay.{twice, bad_start, replay_verdict, replay_of, summary_of, replay_answer, frames_after, events_after}
-use Rattle.replays.specs.declared.Replayed.TheVariants.{Done, Refused}
+use Rattle.trace.specs.declared.Refusal.{Refusal}
+use Rattle.replays.specs.declared.Summary.{Summary}
+use Rattle.replays.specs.declared.Unreplayed.{Unreplayed}
+
+-- A refusal and a resident count.
+abbrev Refused : Refusal → ℕ → Result Summary Unreplayed
+Refused r n = Err (record { refusal = r; resident = n })
 
 -- Frames of some pages that were not written.
 abbrev clean : List ℕ → List Frame
@@ -24,7 +30,7 @@ clean (p ∷ ps) = framed p false ∷ clean ps
 
 -- ---- the file of T
 
-answers : replay_answer file_T 2 (clean (0 ∷ 0 ∷ [])) 0 48 ≡ Done (record { items = 12; fetches = 5; evictions = 3; resident = 2; permillion = 416666 })
+answers : replay_answer file_T 2 (clean (0 ∷ 0 ∷ [])) 0 48 ≡ Ok (record { items = 12; fetches = 5; evictions = 3; resident = 2; permillion = 416666 })
 unfolding replay_answer replay_verdict summary_of replay_of bad_start twice replay ◌then◌ step hit fetch tally tallied is_fetch is_eviction per_million has dirty taken
     encode encode_header encode_items encode_item tag_of field bytes verdict first verdicts.◌then◌ items_verdict is_field is_item allowed header items items_of item number_at number
 answers = refl

@@ -1,4 +1,3 @@
 pub mod Replay
-pub mod Passes
 pub mod Promises
 pub mod Examples

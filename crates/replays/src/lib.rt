@@ -1,18 +1,19 @@
 // A replay of a trace file through a cache that evicts the least recently used page: what is refused, and what is answered. The cache is two columns, pages and marks.
 #![tactic(auto)]
 
-ghost use Rattle.std.specs.Prelude.{◌≡◌, length};
-ghost use Rattle.limits.proofs.Numbers.{cache_most};
+ghost use Rattle.std.specs.Prelude.{◌≡◌, ◌≤◌, length};
 ghost use Rattle.pages.specs.Rows.{over};
-ghost use Rattle.trace.specs.declared.Verdict.TheVariants.{Sound};
+ghost use Rattle.trace.specs.Verdict.{Sound};
 ghost use Rattle.frames.specs.Frames.{pages_of, marks_of, frames_of};
 ghost use Rattle.lru_cache.specs.Lru.{words};
-ghost use Rattle.lru_cache.specs.Passes.{Rows};
+ghost use Rattle.recency.specs.Linked.{places};
 ghost use Rattle.replays.specs.Replay.{twice, bad_start, replay_verdict, replay_of, summary_of, replay_answer, frames_after, events_after};
-ghost use Rattle.replays.specs.Passes.{CanSift, CanStart};
 
-use limits::{Cache, CacheMade};
-use trace::{Reason, Refusal, Verdict};
+use chains::Chains;
+use limits::CacheSize;
+use recency::{Log, Mark, PageChains, Queue};
+use trace::read::Items;
+use trace::{Reason, Refusal};
 
 // What is told of a replay.
 #[derive(Clone, Copy)]
@@ -24,44 +25,38 @@ pub struct Summary {
     pub permillion: u64,
 }
 
+// A refusal, with the resident count that was given.
 #[derive(Clone, Copy)]
-pub enum Replayed {
-    Done(Summary),
-    // The refusal, and the resident count that was given.
-    Refused(Refusal, u64),
+pub struct Unreplayed {
+    pub refusal: Refusal,
+    pub resident: u64,
 }
 
 // Whether a page stands twice: each is looked for among those before it, and then chained.
-fn has_twice(list: &[u64], next: &mut [u16], heads: &mut [u16]) -> bool
-    requires { CanSift list.now next.old heads.old }
+fn has_twice(list: &[u64], chains: &mut PageChains) -> bool
+    requires { length list.now ≤ places }
     ensures { result ≡ twice list.now }
 {
-    chains::clear(heads);
-    let mut i = 0;
-    while i < list.len() {
-        let page = list[i];
-        if 0 < recency::find(list, next, heads, 0, i, page) {
+    chains.clear();
+    for (i, &page) in list.iter().enumerate() {
+        let again = recency::find(list, chains, 0, i, page).is_some();
+        if again {
             return true;
         }
-        recency::link(list, next, heads, i);
-        i += 1;
+        recency::link(list, chains, i);
     }
     false
 }
 
-// Whether a cache cannot start so.
-fn bad_start(k: usize, cache: &[u64], resident: usize, next: &mut [u16], heads: &mut [u16]) -> bool
-    requires { CanStart k next.old heads.old }
+// Whether a cache cannot start so. Here and below the cache is plain columns, with the count of those that are resident: the scope names this form.
+fn bad_start(k: usize, cache: &[u64], resident: usize, chains: &mut PageChains) -> bool
+    requires { k ≤ places }
     ensures { result ≡ bad_start k cache.now resident }
 {
-    if k < resident {
+    if k < resident || cache.len() < k {
         return true;
     }
-    if cache.len() < k {
-        return true;
-    }
-    let start = &cache[0..resident];
-    has_twice(start, next, heads)
+    has_twice(&cache[..resident], chains)
 }
 
 // The file's own refusals, then 7, 9, 10, 11.
@@ -71,29 +66,25 @@ fn judge(
     cache: &[u64],
     resident: usize,
     room: usize,
-    next: &mut [u16],
-    heads: &mut [u16],
-) -> Verdict
-    requires { CanStart cache_most next.old heads.old }
+    chains: &mut PageChains,
+) -> Result<(), Reason>
     ensures { result ≡ replay_verdict file.now k cache.now resident room }
 {
-    if let Verdict::Faulty(r) = trace::judge(file) {
-        return Verdict::Faulty(r);
-    }
-    if let CacheMade::Outside = Cache::new(k) {
-        return Verdict::Faulty(Reason::BadSetting);
+    trace::judge(file)?;
+    if CacheSize::new(k).is_none() {
+        return Err(Reason::BadSetting);
     }
     let h = trace::read::header_at(file);
     if k < h.filter {
-        return Verdict::Faulty(Reason::SmallCache);
+        return Err(Reason::SmallCache);
     }
-    if bad_start(k as usize, cache, resident, next, heads) {
-        return Verdict::Faulty(Reason::BadStart);
+    if bad_start(k as usize, cache, resident, chains) {
+        return Err(Reason::BadStart);
     }
-    if 4 * h.items <= room as u64 {
-        return Verdict::Sound;
+    if (room as u64) < 4 * h.items {
+        return Err(Reason::NoRoom);
     }
-    Verdict::Faulty(Reason::NoRoom)
+    Ok(())
 }
 
 // The replay of a file that is not refused.
@@ -104,14 +95,10 @@ fn replay_sound(
     kept: &mut [bool],
     resident: usize,
     events: &mut [u64],
-    log: &mut [u64],
-    next: &mut [u16],
-    stale: &mut [u8],
-    heads: &mut [u16],
+    log: &mut Log,
 ) -> Summary
     requires events_value { replay_verdict file.now k cache.old resident (length events.old) ≡ Sound }
     requires kept_len { length kept.old ≡ length cache.old }
-    requires rows { Rows log.old next.old stale.old heads.old }
     ensures value { result ≡ summary_of file.now k (frames_of cache.old kept.old) resident }
     ensures cache_after { cache.new ≡ over (pages_of (replay_of file.now k
         (frames_of cache.old kept.old) resident).final) cache.old }
@@ -120,31 +107,18 @@ fn replay_sound(
     ensures events_after { events.new ≡ over (words (replay_of file.now k
         (frames_of cache.old kept.old) resident).events) events.old }
 {
-    let h = trace::read::header_at(file);
-    let f = lru_cache::run(
-        file,
-        h.items as usize,
-        k as usize,
-        cache,
-        kept,
-        resident,
-        events,
-        log,
-        next,
-        stale,
-        heads,
-    );
-    let t = f.tally;
+    let items = Items::of(file);
+    let t = lru_cache::run(items, k as usize, cache, kept, resident, events, log);
     Summary {
         items: t.items,
         fetches: t.fetches,
         evictions: t.evictions,
-        resident: f.resident as u64,
+        resident: log.queue.resident as u64,
         permillion: lru_cache::per_million(t.fetches, t.items),
     }
 }
 
-// `replay_columns`, in rows that are lent.
+// `replay_columns`, in a log that is lent.
 fn replay_in(
     file: &[u8],
     k: u64,
@@ -152,13 +126,9 @@ fn replay_in(
     kept: &mut [bool],
     resident: usize,
     events: &mut [u64],
-    log: &mut [u64],
-    next: &mut [u16],
-    stale: &mut [u8],
-    heads: &mut [u16],
-) -> Replayed
-    requires kept_len { length kept.old ≡ length cache.old }
-    requires rows { Rows log.old next.old stale.old heads.old }
+    log: &mut Log,
+) -> Result<Summary, Unreplayed>
+    requires { length kept.old ≡ length cache.old }
     ensures value { result ≡ replay_answer file.now k (frames_of cache.old kept.old) resident (length events.old) }
     ensures cache_after { cache.new ≡ pages_of (frames_after file.now k
         (frames_of cache.old kept.old) resident (length events.old)) }
@@ -166,11 +136,12 @@ fn replay_in(
         (frames_of cache.old kept.old) resident (length events.old)) }
     ensures events_after { events.new ≡ events_after file.now k (frames_of cache.old kept.old) resident events.old }
 {
-    match judge(file, k, cache, resident, events.len(), next, heads) {
-        Verdict::Faulty(r) => Replayed::Refused(trace::told(r), resident as u64),
-        Verdict::Sound => Replayed::Done(replay_sound(
-            file, k, cache, kept, resident, events, log, next, stale, heads,
-        )),
+    match judge(file, k, cache, resident, events.len(), &mut log.chains) {
+        Err(r) => Err(Unreplayed {
+            refusal: r.into(),
+            resident: resident as u64,
+        }),
+        Ok(()) => Ok(replay_sound(file, k, cache, kept, resident, events, log)),
     }
 }
 
@@ -183,7 +154,7 @@ pub fn replay_columns(
     kept: &mut [bool],
     resident: usize,
     events: &mut [u64],
-) -> Replayed
+) -> Result<Summary, Unreplayed>
     requires { length kept.old ≡ length cache.old }
     ensures value { result ≡ replay_answer file.now k (frames_of cache.old kept.old) resident (length events.old) }
     ensures cache_after { cache.new ≡ pages_of (frames_after file.now k
@@ -192,11 +163,19 @@ pub fn replay_columns(
         (frames_of cache.old kept.old) resident (length events.old)) }
     ensures events_after { events.new ≡ events_after file.now k (frames_of cache.old kept.old) resident events.old }
 {
-    let mut log = [0u64; recency::PLACES];
-    let mut next = [0u16; recency::PLACES];
-    let mut stale = [0u8; recency::PLACES];
-    let mut heads = [0u16; recency::BUCKETS];
-    replay_in(
-        file, k, cache, kept, resident, events, &mut log, &mut next, &mut stale, &mut heads,
-    )
+    // Here and not in a function that answers it, so that it is built where it stays.
+    let mut log = Log {
+        pages: [0; recency::PLACES],
+        marks: [Mark::Clean; recency::PLACES],
+        chains: Chains {
+            heads: [0; recency::BUCKETS],
+            next: [0; recency::PLACES],
+        },
+        queue: Queue {
+            resident: 0,
+            low: 0,
+            now: 0,
+        },
+    };
+    replay_in(file, k, cache, kept, resident, events, &mut log)
 }

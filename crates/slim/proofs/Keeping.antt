@@ -21,8 +21,8 @@ use Rattle.epochs.specs.Epochs.{pages, touched}
 use Rattle.epochs.specs.Keep.{is_first, is_last, keeps, kept, owe, lost}
 use Rattle.epochs.specs.declared.Mode.TheVariants.{Demand}
 use Rattle.epochs.proofs.Kept.{first-kept, last_kept}
-use Rattle.slim.specs.Passes.{last_place, Noted, NoneNoted, flags_set, CanKeep, kept_there, Owes, Flags}
-use Rattle.slim.proofs.Flags.{place-taken, owes_new, owes_more, flags_new, flags_more, flags_most}
+use Rattle.slim.specs.Passes.{last_place, Noted, NoneNoted, CanKeep, kept_there, Owes, Flags}
+use Rattle.slim.proofs.Flags.{place-taken, owes_new, owes_more}
 use Rattle.pages.proofs.Table.{has-taken, has_within, place_within}
 use Rattle.filter.specs.Filter.{Notes, FirstNoted, Clear}
 use Rattle.filter.proofs.Noting.{notes_long, notes_told}
@@ -168,7 +168,7 @@ still_none n o = record { from = omega arith; none = n.none; here = λ e. absurd
 
 -- What is kept so far is written behind what was done, and with what is kept of the rest it is all.
 pub record Keeping (file : List ℕ) (from end had done : ℕ) (filter last : List ℕ) (held : ℕ) (flags₀ out₀ : List ℕ)
-    (k c m n skip : ℕ) (flags out : List ℕ) : Type 0 where
+    (k c m skip : ℕ) (flags out : List ℕ) : Type 0 where
   pub within : k ≤ end
   pub left : Left filter last k c (items_from file k (end - k))
   pub so_far : List Item
@@ -182,14 +182,13 @@ pub record Keeping (file : List ℕ) (from end had done : ℕ) (filter last : Li
   pub flags_same : length flags ≡ length flags₀
   pub owing : (owed : List ℕ) → Owes (take had filter) flags₀ owed
       → Owing filter flags c (items_from file k (end - k)) (lost Demand (take had filter) owed (items_from file from (end - from)))
-  pub counted : n ≡ flags_set c flags
   pub clear : Clear c flags
   pub skipped : NoneNoted (take held last) k skip
 
 -- Nothing is kept yet.
-pub keeping_none : {file : List ℕ} {from end had done owing : ℕ} {filter last : List ℕ} (held : ℕ) {flags out : List ℕ}
-    → CanKeep file from end had done owing filter last flags out → Keeping file from end had done filter last held flags out from had done owing from flags out
-keeping_none {done = done} held {out = out} p = record {
+pub keeping_none : {file : List ℕ} {from end had done : ℕ} {filter last : List ℕ} (held : ℕ) {flags out : List ℕ}
+    → CanKeep file from end had done filter last flags out → length filter ≤ length flags → Keeping file from end had done filter last held flags out from had done from flags out
+keeping_none {done = done} held {out = out} p l = record {
   within = p.within;
   left = record { before = p.before; filter_is = p.filter_is; last_noted = p.last_noted };
   so_far = [];
@@ -199,24 +198,15 @@ keeping_none {done = done} held {out = out} p = record {
   few = omega arith;
   room = p.room;
   out_long = refl;
-  flags_long = p.flags_long;
+  flags_long = l;
   flags_same = refl;
   owing = λ owed o. record { now_owed = owed; owes = o; then_owed = refl };
-  counted = p.owing_is;
   clear = p.clear;
   skipped = record { none = λ i a b. absurd (omega arith) };
 }
 
-module _ {file : List ℕ} {from end had done : ℕ} {filter last : List ℕ} {held : ℕ} {flags₀ out₀ : List ℕ} {k c m n skip : ℕ} {flags out : List ℕ}
-    (r : Keeping file from end had done filter last held flags₀ out₀ k c m n skip flags out) where
-  -- There is a flag for each place.
-  pub keeping_long : Notes file last held filter → held ≤ length flags
-  keeping_long f = omega (arith, notes_long f, r.flags_long)
-
-  -- No more pages are owed a write than are held.
-  pub keeping_owing : Notes file last held filter → n ≤ held
-  keeping_owing f = omega (arith, notes_long f, r.left.before, r.counted, flags_most c flags)
-
+module _ {file : List ℕ} {from end had done : ℕ} {filter last : List ℕ} {held : ℕ} {flags₀ out₀ : List ℕ} {k c m skip : ℕ} {flags out : List ℕ}
+    (r : Keeping file from end had done filter last held flags₀ out₀ k c m skip flags out) where
   module _ (h : k < end) {x : Item} (e : x ≡ item_at file k) where
     -- What is left is the item that was read, and what is left after it.
     rest : items_from file k (end - k) ≡ x ∷ items_from file (k + 1) (end - (k + 1))
@@ -226,11 +216,11 @@ module _ {file : List ℕ} {from end had done : ℕ} {filter last : List ℕ} {h
     here = rw rest at r.left
 
     -- A turn is done that keeps the items a.
-    passed : {c' m' n' skip' : ℕ} {a : List Item} {flags' out' : List ℕ} → Turn filter last flags k c x (items_from file (k + 1) (end - (k + 1))) c' a flags'
-        → Wrote m a out out' → m' ≡ m + length a → length a ≤ 1 → length flags' ≡ length flags → n' ≡ flags_set c' flags' → Clear c' flags'
+    passed : {c' m' skip' : ℕ} {a : List Item} {flags' out' : List ℕ} → Turn filter last flags k c x (items_from file (k + 1) (end - (k + 1))) c' a flags'
+        → Wrote m a out out' → m' ≡ m + length a → length a ≤ 1 → length flags' ≡ length flags → Clear c' flags'
         → NoneNoted (take held last) (k + 1) skip'
-        → Keeping file from end had done filter last held flags₀ out₀ (k + 1) c' m' n' skip' flags' out'
-    passed {a = a} t w e s f g v u = record {
+        → Keeping file from end had done filter last held flags₀ out₀ (k + 1) c' m' skip' flags' out'
+    passed {a = a} t w e s f v u = record {
       within = omega arith;
       left = t.next;
       so_far = r.so_far ++ a;
@@ -246,7 +236,6 @@ module _ {file : List ℕ} {from end had done : ℕ} {filter last : List ℕ} {h
           let b = r.owing owed o in
           let z = t.owes b.now_owed b.owes in
           record { now_owed = z.now_owed; owes = z.owes; then_owed = z.then_owed ∙ (rw rest at b.then_owed) };
-      counted = g;
       clear = v;
       skipped = u;
     }
@@ -262,13 +251,13 @@ module _ {file : List ℕ} {from end had done : ℕ} {filter last : List ℕ} {h
 
       -- The item is the first of its page, and is written. Its page's flag is not set.
       pub keeping_new : b ≡ true → {out' : List ℕ} → out' ≡ sets out (23 + 19 * m) (encode_item x)
-          → Keeping file from end had done filter last held flags₀ out₀ (k + 1) (c + 1) (m + 1) n skip flags out'
+          → Keeping file from end had done filter last held flags₀ out₀ (k + 1) (c + 1) (m + 1) skip flags out'
       keeping_new t {out'} w =
           let l = keeping_flag t in
           let z : set flags c 0 ≡ flags = rw (r.clear c (omega arith)) at (set-get_or flags c 0) in
-          let p : Keeping file from end had done filter last held flags₀ out₀ (k + 1) (c + 1) (m + 1) n skip (set flags c 0) out' =
+          let p : Keeping file from end had done filter last held flags₀ out₀ (k + 1) (c + 1) (m + 1) skip (set flags c 0) out' =
           passed (turn_new here refl (omega (arith, same _ c (sym q ∙ t))) l) (wrote_one w) (omega arith) (omega arith) (length-set flags c 0)
-          (r.counted ∙ sym (flags_new c flags l)) (λ i o. rw z (r.clear i (omega arith))) (record { none = λ i a b. r.skipped.none i (omega arith) b }) in
+          (λ i o. rw z (r.clear i (omega arith))) (record { none = λ i a b. r.skipped.none i (omega arith) b }) in
           rw z at p
 
       module _ (t : b ≡ false) (f : Notes file last held filter) {skip' : ℕ} (g : FirstNoted (take held last) k skip') where
@@ -289,28 +278,25 @@ module _ {file : List ℕ} {from end had done : ℕ} {filter last : List ℕ} {h
 
         -- The item is the last of its page, and is written.
         pub keeping_last : skip' ≡ k → {out' : List ℕ} → out' ≡ sets out (23 + 19 * m) (encode_item x)
-            → Keeping file from end had done filter last held flags₀ out₀ (k + 1) c (m + 1) n skip' flags out'
-        keeping_last d w = passed (turn_last here refl before (same _ k (told ∙ g.here d))) (wrote_one w) (omega arith) (omega arith) refl r.counted r.clear onward
+            → Keeping file from end had done filter last held flags₀ out₀ (k + 1) c (m + 1) skip' flags out'
+        keeping_last d w = passed (turn_last here refl before (same _ k (told ∙ g.here d))) (wrote_one w) (omega arith) (omega arith) refl r.clear onward
 
         module _ (d : skip' ≡ k → ⊥) where
           other : get_or last (place x.page filter) 0 ≡ k → ⊥
           other = eqb-false _ k (told ∙ g.none k (omega arith) (first-after g d))
 
           -- It is neither the first nor the last: a read,
-          pub keeping_skip : x.written ≡ false → Keeping file from end had done filter last held flags₀ out₀ (k + 1) c m n skip' flags out
-          keeping_skip z = passed (turn_skip here refl before other z) (wrote_none m out) (omega arith) (omega arith) refl r.counted r.clear onward
+          pub keeping_skip : x.written ≡ false → Keeping file from end had done filter last held flags₀ out₀ (k + 1) c m skip' flags out
+          keeping_skip z = passed (turn_skip here refl before other z) (wrote_none m out) (omega arith) (omega arith) refl r.clear onward
 
           -- or a write, which its page is owed.
-          pub keeping_drop : x.written ≡ true → {n' : ℕ} → n' ≡ cond (eqb (get_or flags (place x.page filter) 0) 1) n (n + 1)
-              → {flags' : List ℕ} → flags' ≡ set flags (place x.page filter) 1
-              → Keeping file from end had done filter last held flags₀ out₀ (k + 1) c m n' skip' flags' out
-          keeping_drop z u v =
+          pub keeping_drop : x.written ≡ true → {flags' : List ℕ} → flags' ≡ set flags (place x.page filter) 1
+              → Keeping file from end had done filter last held flags₀ out₀ (k + 1) c m skip' flags' out
+          keeping_drop z v =
               let l : place x.page filter < length flags = omega (arith, before, here.before, r.flags_long) in
-              let more = flags_more c flags (place x.page filter) before l in
-              let now = u ∙ sym (rw (← r.counted) at more) in
               let clear : Clear c (set flags (place x.page filter) 1) =
               λ i o. get_or-set_other flags (place x.page filter) i 1 0 (λ y. omega (arith, before)) ∙ r.clear i o in
-              rw v (passed (turn_drop here refl before other z l) (wrote_none m out) (omega arith) (omega arith) (length-set flags (place x.page filter) 1) now clear onward)
+              rw v (passed (turn_drop here refl before other z l) (wrote_none m out) (omega arith) (omega arith) (length-set flags (place x.page filter) 1) clear onward)
 
   module _ (h : end ≤ k) where
     -- What is kept so far is all.
@@ -331,10 +317,9 @@ module _ {file : List ℕ} {from end had done : ℕ} {filter last : List ℕ} {h
     passed_all = rw (from_none file h) at r.left.filter_is
 
     -- The filter is passed, and the flags say what is owed.
-    pub keeping_flags : Flags file from end had filter flags₀ flags n
+    pub keeping_flags : Flags file from end had filter flags₀ flags
     unfolding lost touched
     keeping_flags = record {
-      count = r.counted ∙ ap (λ (c : ℕ). flags_set c flags) (sym (length-take-le c filter r.left.before) ∙ ap length (sym passed_all));
       clear = λ i o. r.clear i (omega (arith, r.left.before));
       owes = λ owed o.
           let b = r.owing owed o in

@@ -5,10 +5,11 @@ use mathlib.Core.Logic.{◌≢◌}
 use mathlib.Core.Bool.{true, false, not, ◌||◌, ◌&&◌, or-false, or-true}
 use mathlib.Core.List.{List, [], ◌∷◌, ◌++◌, append-nil, append_assoc}
 use native.Mathlib.Omega.{arith}
-use lib.ListN.{length, get_or, set, length-append, length-set}
+use lib.ListN.{length, get_or, set, length-append, length-set, get_or-eq_default}
 use lib.Seq.{sets, length-sets, get_or-set_same, get_or-set_other}
 use lib.Dec.{eqb, ltb}
-use borrow.Author.Tests.{eq-eqb, ne_eqb, eqb-false, ltb-true, ltb-false}
+use borrow.Author.Tests.{eq-eqb, ne_eqb, eqb-false, ltb-true, ltb-false, lt-ltb}
+use Rattle.std.specs.Prelude.{Some, None}
 use Rattle.pages.specs.Pages.{has, place}
 use Rattle.pages.proofs.Choice.{split, same, eqb_self}
 use Rattle.pages.proofs.Added.{has_join}
@@ -16,12 +17,13 @@ use Rattle.pages.proofs.Table.{place_within, place_same}
 use Rattle.trace.specs.Layout.{item_at, encode_item, encode_items}
 use Rattle.trace.specs.declared.Item.{Item}
 use Rattle.trace.proofs.Output.{wrote-item, wrote_again}
-use Rattle.filter.specs.Filter.{flag_is, place_if, Clear}
+use Rattle.filter.specs.Filter.{flags_set, flag_is, place_if, among, found_if, Clear}
+use Rattle.filter.proofs.Finding.{among_place}
 use Rattle.epochs.specs.Epochs.{pages}
 use Rattle.epochs.specs.Keep.{is_last, settle, settled}
 use Rattle.epochs.proofs.Marks.{pages_join, settled_front}
-use Rattle.slim.specs.Passes.{flags_set, CanMend, Fit, Stand, Mended}
-use Rattle.slim.proofs.Flags.{flags_none, flags_less}
+use Rattle.slim.specs.Passes.{CanMend, Fit, Stand, Mended}
+use Rattle.slim.proofs.Flags.{flags_none}
 
 -- ---- a row of items, from its end
 
@@ -57,10 +59,7 @@ pub record Settling (filter flags out : List ℕ) (from k : ℕ) (old : List ℕ
   pub wrote : out ≡ sets old (23 + 19 * from) (encode_items (before ++ settled owed back))
   pub flagged : (p : ℕ) → has p filter ≡ true → eqb (get_or flags (place p filter) 0) 1 ≡ not (has p (pages back)) && has p owed
 
-pub record Mending (filter flags₀ : List ℕ) (held from to : ℕ) (out₀ flags out : List ℕ) (k left : ℕ) : Type 0 where
-  pub long : length filter ≡ held
-  pub left_is : left ≡ flags_set held flags
-  pub clear : Clear held flags
+pub record Mending (filter flags₀ : List ℕ) (from to : ℕ) (out₀ flags out : List ℕ) (k : ℕ) : Type 0 where
   pub begins : from ≤ k
   pub ends : k ≤ to
   pub room : 23 + 19 * to ≤ length out
@@ -69,26 +68,23 @@ pub record Mending (filter flags₀ : List ℕ) (held from to : ℕ) (out₀ fla
   pub flags_same : length flags ≡ length flags₀
   pub settling : (old : List ℕ) (u : List Item) (owed : List ℕ) → Stand filter flags₀ from to out₀ old u owed → Settling filter flags out from k old u owed
 
--- Where none of the first flags is set, and none behind them, none is.
-none_set : (held : ℕ) (flags : List ℕ) → flags_set held flags ≡ 0 → Clear held flags → ((j : ℕ) → get_or flags j 0 ≤ 1) → Clear 0 flags
-none_set held flags z clear bits j o =
-    split (ltb j held)
-    (λ t. let n = flags_none held flags z j (ltb-true j held t) in let b = bits j in omega arith)
-    (λ t. clear j (ltb-false j held t))
+-- Where none of as many flags as there are is set, none is.
+none_set : {c : ℕ} (flags : List ℕ) → length flags ≡ c → flags_set c flags ≡ 0 → ((j : ℕ) → get_or flags j 0 ≤ 1) → Clear 0 flags
+none_set {c} flags l z bits j o =
+    split (ltb j c)
+    (λ t. let n = flags_none c flags z j (ltb-true j c t) in let b = bits j in omega arith)
+    (λ t. get_or-eq_default flags 0 {n = j} (omega (arith, ltb-false j c t)))
 
 -- Nothing is settled yet.
-pub mending_none : (filter flags : List ℕ) (from to held owing : ℕ) (out : List ℕ) → length filter ≡ held → CanMend from to held owing out flags
-    → Mending filter flags held from to out flags out to owing
+pub mending_none : {filter flags : List ℕ} {from to held : ℕ} {out : List ℕ} → CanMend from to held out flags → length filter ≤ length flags
+    → Mending filter flags from to out flags out to
 unfolding has pages settled
-mending_none filter flags from to held owing out l can = record {
-  long = l;
-  left_is = can.owing_is;
-  clear = can.clear;
+mending_none can l = record {
   begins = can.within;
   ends = omega arith;
   room = can.room;
   out_long = refl;
-  flags_long = rw l can.flags_long;
+  flags_long = l;
   flags_same = refl;
   settling = λ old u owed s. record {
     before = u;
@@ -100,28 +96,23 @@ mending_none filter flags from to held owing out l can = record {
   };
 }
 
-module _ {filter flags₀ : List ℕ} {held from to : ℕ} {out₀ flags out : List ℕ} {k left : ℕ} (r : Mending filter flags₀ held from to out₀ flags out k left) where
-  -- There is a flag for each place.
-  pub mending_long : held ≤ length flags
-  mending_long = omega (arith, r.long, r.flags_long)
-
+module _ {filter flags₀ : List ℕ} {from to : ℕ} {out₀ flags out : List ℕ} {k : ℕ} (r : Mending filter flags₀ from to out₀ flags out k) where
   -- No flag is set: the items before are settled too.
-  pub mending_stop : left ≡ 0 → Mended filter flags₀ from to out₀ out
-  mending_stop z = record {
+  pub mending_stop : {c : ℕ} → length flags ≡ c → flags_set c flags ≡ 0 → Mended filter flags₀ from to out₀ out
+  mending_stop {c} l z = record {
     settles = λ old u owed s.
         let b = r.settling old u owed s in
-        let none : flags_set held flags ≡ 0 = sym r.left_is ∙ z in
         let front = settled_front owed b.before b.back (λ p h.
         let joined : has p (pages (b.before ++ b.back)) ≡ true =
         rw (pages_join b.before b.back, has_join p (pages b.before) (pages b.back), h) in
         let known = s.known p (rw (← b.are) at joined) in
-        sym (b.flagged p known) ∙ ne_eqb _ 1 (flags_none held flags none (place p filter) (omega (arith, place_within p filter known, r.long)))) in
+        sym (b.flagged p known) ∙ ne_eqb _ 1 (flags_none c flags z (place p filter) (omega (arith, place_within p filter known, r.flags_long)))) in
         b.wrote ∙ ap (λ (t : List Item). sets old (23 + 19 * from) (encode_items t)) (sym front ∙ ap (settled owed) (sym b.are));
   }
 
   -- Then none at all is.
-  pub mending_clear : left ≡ 0 → ((j : ℕ) → get_or flags j 0 ≤ 1) → Clear 0 flags
-  mending_clear z bits = none_set held flags (sym r.left_is ∙ z) r.clear bits
+  pub mending_clear : {c : ℕ} → length flags ≡ c → flags_set c flags ≡ 0 → ((j : ℕ) → get_or flags j 0 ≤ 1) → Clear 0 flags
+  mending_clear l z bits = none_set flags l z bits
 
   -- All is settled.
   pub mending_all : k ≤ from → Mended filter flags₀ from to out₀ out
@@ -137,22 +128,22 @@ module _ {filter flags₀ : List ℕ} {held from to : ℕ} {out₀ flags out : L
       all old owed [] c n e w = rw e w
       all old owed (i ∷ a) c n e w = absurd (omega arith)
 
-  module _ (h : from < k) {x : Item} (e : x ≡ item_at out (k - 1)) {j : ℕ} (f : j ≡ place_if true flags x.page filter) where
+  module _ (h : from < k) {x : Item} (e : x ≡ item_at out (k - 1)) where
     -- The page of the item is owed a write, and has place j,
-    found : j < held → (j ≡ place x.page filter) × (get_or flags j 0 ≡ 1)
-    unfolding flag_is place_if
-    found o =
+    pub mending_found : {j : ℕ} → Some j ≡ found_if true flags x.page filter → (j ≡ place x.page filter) × ((j < length filter) × (get_or flags j 0 ≡ 1))
+    unfolding flag_is place_if found_if
+    mending_found {j} f =
         split (eqb (get_or flags (place x.page filter) 0) 1)
-        (λ t. let q : j ≡ place x.page filter = rw t at f in (q, rw q (same _ 1 t)))
-        (λ t. absurd (let q : j ≡ length filter = rw t at f in omega (arith, r.long)))
+        (λ t. let (q, w) = among_place (rw t at f) in (q, (w, rw q (same _ 1 t))))
+        (λ t. let (q, w) = among_place (rw t at f) in absurd (omega arith))
 
     -- or it is not.
-    missed : held ≤ j → place x.page filter < length filter → get_or flags (place x.page filter) 0 ≡ 1 → ⊥
-    unfolding flag_is place_if
-    missed o w g =
+    missed : None ≡ found_if true flags x.page filter → place x.page filter < length filter → get_or flags (place x.page filter) 0 ≡ 1 → ⊥
+    unfolding flag_is place_if found_if among
+    missed f w g =
         let t = eq-eqb _ 1 g in
-        let q : j ≡ place x.page filter = rw t at f in
-        omega (arith, r.long)
+        let q : None ≡ Some (place x.page filter) = rw (t, lt-ltb _ _ w) at f in
+        cc
 
     -- A turn, of what stands there whatever it is.
     record Turn (old : List ℕ) (u : List Item) (owed : List ℕ) : Type 0 where
@@ -206,13 +197,10 @@ module _ {filter flags₀ : List ℕ} {held from to : ℕ} {out₀ flags out : L
     own old u owed t = t.flagged x.page t.known
 
     -- A turn is done.
-    go : (flags' out' : List ℕ) {left' : ℕ} → length flags' ≡ length flags → length out' ≡ length out → left' ≡ flags_set held flags' → Clear held flags'
+    go : (flags' out' : List ℕ) → length flags' ≡ length flags → length out' ≡ length out
         → ((old : List ℕ) (u : List Item) (owed : List ℕ) → Turn old u owed → Settling filter flags' out' from (k - 1) old u owed)
-        → Mending filter flags₀ held from to out₀ flags' out' (k - 1) left'
-    go flags' out' a b n d c = record {
-      long = r.long;
-      left_is = n;
-      clear = d;
+        → Mending filter flags₀ from to out₀ flags' out' (k - 1)
+    go flags' out' a b c = record {
       begins = omega arith;
       ends = omega (arith, r.ends);
       room = rw b r.room;
@@ -223,16 +211,16 @@ module _ {filter flags₀ : List ℕ} {held from to : ℕ} {out₀ flags out : L
     }
 
     -- The page of the item is owed a write: it becomes one, and its flag is cleared.
-    pub mending_set : j < held → {out' : List ℕ} → out' ≡ sets out (23 + 19 * (k - 1)) (encode_item (record { page = x.page; time = x.time; written = true }))
-        → Mending filter flags₀ held from to out₀ (set flags j 0) out' (k - 1) (left - 1)
+    pub mending_set : {j : ℕ} → Some j ≡ found_if true flags x.page filter
+        → {out' : List ℕ} → out' ≡ sets out (23 + 19 * (k - 1)) (encode_item (record { page = x.page; time = x.time; written = true }))
+        → Mending filter flags₀ from to out₀ (set flags j 0) out' (k - 1)
     unfolding has pages is_last settle settled
-    mending_set o {out'} w =
-        let (q, z) = found o in
-        let l : j < length flags = omega (arith, r.long, r.flags_long) in
+    mending_set {j} f {out'} w =
+        let (q, (i, z)) = mending_found f in
+        let l : j < length flags = omega (arith, r.flags_long) in
         let y : Item = record { page = x.page; time = x.time; written = true } in
-        let less = flags_less held flags j o z l in
-        go (set flags j 0) out' (length-set flags j 0) (ap length w ∙ length-sets out (23 + 19 * (k - 1)) (encode_item y)) (omega (arith, less, r.left_is))
-        (λ i g. get_or-set_other flags j i 0 0 (λ y. omega arith) ∙ r.clear i g) (λ old u owed t.
+        go (set flags j 0) out' (length-set flags j 0) (ap length w ∙ length-sets out (23 + 19 * (k - 1)) (encode_item y))
+        (λ old u owed t.
         let v : not (has x.page (pages t.back)) && has x.page owed ≡ true = sym (own old u owed t) ∙ rw q at (eq-eqb (get_or flags j 0) 1 z) in
         let at : k - 1 ≡ from + length t.front = omega (arith, t.at) in
         let settles : settle owed x t.back ≡ y = rw (v, or-true x.written) in
@@ -250,11 +238,11 @@ module _ {filter flags₀ : List ℕ} {held from to : ℕ} {out₀ flags out : L
         })
 
     -- It is not: the item stays.
-    pub mending_leave : held ≤ j → Mending filter flags₀ held from to out₀ flags out (k - 1) left
+    pub mending_leave : None ≡ found_if true flags x.page filter → Mending filter flags₀ from to out₀ flags out (k - 1)
     unfolding has pages is_last settle settled
-    mending_leave o =
-        go flags out refl refl r.left_is r.clear (λ old u owed t.
-        let n : eqb (get_or flags (place x.page filter) 0) 1 ≡ false = ne_eqb _ 1 (missed o (place_within x.page filter t.known)) in
+    mending_leave f =
+        go flags out refl refl (λ old u owed t.
+        let n : eqb (get_or flags (place x.page filter) 0) 1 ≡ false = ne_eqb _ 1 (missed f (place_within x.page filter t.known)) in
         let v : not (has x.page (pages t.back)) && has x.page owed ≡ false = sym (own old u owed t) ∙ n in
         let at : k - 1 ≡ from + length t.front = omega (arith, t.at) in
         let stays : x.written || (not (has x.page (pages t.back)) && has x.page owed) ≡ x.written = rw (v, or-false) in
@@ -271,9 +259,6 @@ module _ {filter flags₀ : List ℕ} {held from to : ℕ} {out₀ flags out : L
         })
 
 -- Where nothing is owed all is as it should be.
-pub mending_quiet : (filter flags : List ℕ) (from to held owing : ℕ) (out : List ℕ) → length filter ≡ held → CanMend from to held owing out flags → owing ≡ 0
-    → Mended filter flags from to out out
-mending_quiet filter flags from to held owing out l can z = mending_stop (mending_none filter flags from to held owing out l can) z
-
-pub quiet_clear : {from to held owing : ℕ} {out flags : List ℕ} → CanMend from to held owing out flags → owing ≡ 0 → ((j : ℕ) → get_or flags j 0 ≤ 1) → Clear 0 flags
-quiet_clear {held = held} {flags = flags} can z bits = none_set held flags (sym can.owing_is ∙ z) can.clear bits
+module _ {filter flags : List ℕ} {from to held : ℕ} {out : List ℕ} (can : CanMend from to held out flags) (l : length filter ≤ length flags) where
+  pub mending_quiet : {c : ℕ} → length flags ≡ c → flags_set c flags ≡ 0 → ((j : ℕ) → get_or flags j 0 ≤ 1) → Mended filter flags from to out out × Clear 0 flags
+  mending_quiet e z bits = (mending_stop (mending_none can l) e z, none_set flags e z bits)

@@ -4,7 +4,7 @@ use mathlib.Core.Path.{◌≡◌, refl, sym, ◌∙◌}
 use mathlib.Core.Bool.{true, false}
 use mathlib.Core.List.{List}
 use native.Mathlib.Omega.{arith}
-use lib.ListN.{length, replicate, length-replicate}
+use lib.ListN.{length}
 use lib.Seq.{sets}
 use lib.Dec.{leb, eqb}
 use borrow.Author.Tests.{leb-true, ltb-false, le-ltb, eqb-true, eq-eqb, not-false}
@@ -20,25 +20,23 @@ use Rattle.trace.specs.Promises.{AreBytes}
 use Rattle.trace.specs.declared.Header.{Header}
 use Rattle.trace.specs.declared.Reason.{Reason}
 use Rattle.trace.specs.declared.Refusal.{Refusal}
-use Rattle.trace.specs.declared.Verdict.{Verdict}
-use Rattle.trace.specs.declared.Verdict.TheVariants.{Sound, Faulty}
+use Rattle.trace.specs.Verdict.{Verdict}
+use Rattle.trace.specs.Verdict.{Sound, Faulty}
 use Rattle.trace.proofs.Allowed.{le_between}
 use Rattle.trace.proofs.Sound.{first_passed, passed_first, then_both, both_then, elim_then}
 use Rattle.trace.proofs.Checking.{sound_file}
 use Rattle.trace.proofs.Tests.{holds}
 use Rattle.trace.proofs.Items.{items_from_lem, length_from}
 use Rattle.trace.proofs.Output.{Wrote, wrote_file}
-use Rattle.chains.proofs.Chained.{low_zeros}
-use Rattle.filter.specs.Filter.{buckets, flags_of}
-use Rattle.filter.proofs.Filling.{holds_none}
-use Rattle.filter.proofs.Bits.{flags_length, zeros_clear}
+use Rattle.filter.specs.Filter.{Clear}
 use Rattle.epochs.specs.Keep.{reduce}
 use Rattle.epochs.specs.declared.Mode.{Mode}
 use Rattle.epochs.proofs.Order.{reduce-length}
 use Rattle.slim.specs.Passes.{CanSlim}
-use Rattle.slim.specs.Reduce.{is_mode, mode_of, kept_of, reduced_header, reduced_file, falls, reduce_tests, reduce_verdict, reduce_answer, reduce_out}
-use Rattle.slim.specs.declared.Reduced.TheVariants.{Written, Refused}
-use Rattle.slim.proofs.Judging.{flag_rising}
+use Rattle.slim.specs.Reduce.{is_mode, mode_of, kept_of, reduced_header, reduced_file, falls, reduce_tests, reduce_verdict, mode_judged, reduce_answer, reduce_out}
+use Rattle.std.specs.Prelude.{Result, Ok, Err}
+use Rattle.epochs.specs.Modes.{number_of}
+use Rattle.slim.proofs.Judging.{number_back, flag_rising}
 
 -- ---- what a sound verdict says
 
@@ -111,23 +109,21 @@ module _ (f : List ℕ) (mode size : ℕ) (out : List ℕ) (v : reduce_verdict f
     long_is : length f ≡ 23 + 19 * h.items
     long_is = rw q long
 
-    -- The passes may begin, with an empty filter that has room for the largest.
-    pub reducing_slim : h.items < 4294967296 → AreBytes f
-        → CanSlim f h.items size (replicate filter_most 0) (replicate buckets 0) (replicate filter_most 0) (flags_of (replicate 512 0)) out
-    reducing_slim c b =
+    -- The passes may begin, with a filter that holds no page.
+    pub reducing_slim : h.items < 4294967296 → AreBytes f → {file : List ℕ} → file ≡ f → {held : ℕ} → held ≡ 0 → {owed : List ℕ} → Clear 0 owed
+        → CanSlim file h.items size held owed out
+    reducing_slim c b e {held} z {owed} o =
         let a = able in
-        record {
+        rw e (record {
           file_long = omega (arith, long_is);
           count = c;
           some = a.least;
           few = a.most;
-          filter = holds_none f (replicate filter_most 0) (low_zeros buckets) (omega arith) (omega arith) (omega arith);
-          room = a.most;
-          flags = omega (arith, a.most, flags_length (replicate 512 0), length-replicate {A = ℕ} 512 0);
-          clear = zeros_clear 512;
+          empty = z;
+          clear = o;
           octets = b;
           fits = omega (arith, long_is);
-        }
+        })
 
     -- The output holds the file.
     pub reducing_file : {m : Mode} → m ≡ mode_of mode → {n : ℕ} → n ≡ length (reduce m size (items_from f 0 h.items))
@@ -144,27 +140,56 @@ module _ (f : List ℕ) (mode size : ℕ) (out : List ℕ) (v : reduce_verdict f
 
 -- ---- the answer
 
-module _ (f : List ℕ) (mode size : ℕ) (out : List ℕ) {v : Verdict} (e : v ≡ reduce_verdict f mode size (length out)) where
-  -- The verdict is the code's.
-  pub reducing_sound : v ≡ Sound → reduce_verdict f mode size (length out) ≡ Sound
-  reducing_sound s = sym e ∙ s
+-- What is told of a reduction with a mode, and of one that is refused.
+mode_sound : (x : Mode) {m : Mode} (w : Verdict) → ◌≡◌ {A = Result Mode Reason} (elim w [ Ok _ ↦ Ok x | Err r ↦ Err r ]) (Ok m) → (w ≡ Sound) × (m ≡ x)
+mode_sound x (Ok _) e = (refl, cc)
+mode_sound x (Err r) e = let z : ◌≡◌ {A = ℕ} 0 1 = cc in absurd (omega arith)
 
-  module _ {r : Reason} {a : Refusal} (q : v ≡ Faulty r) (t : a ≡ row r) where
-    -- A refusal is told, and changes nothing.
-    pub reduce-refused : Refused a ≡ reduce_answer f mode size (length out)
-    unfolding reduce_answer
-    reduce-refused = rw (← e, q, t, reduce_answer)
+err_faulty : (x : Mode) {r : Reason} (w : Verdict) → ◌≡◌ {A = Result Mode Reason} (elim w [ Ok _ ↦ Ok x | Err s ↦ Err s ]) (Err r) → w ≡ Faulty r
+err_faulty x (Ok _) e = let z : ◌≡◌ {A = ℕ} 0 1 = cc in absurd (omega arith)
+err_faulty x (Err s) e = cc
 
-  pub reduce-kept : {r : Reason} → v ≡ Faulty r → out ≡ reduce_out f mode size out
+module _ (f : List ℕ) (mode size : ℕ) (out : List ℕ) (s : reduce_verdict f mode size (length out) ≡ Sound) where
+  -- A reduction that is not refused answers the header, and writes the file.
+  pub answer_is : Ok (reduced_header f mode size) ≡ reduce_answer f mode size (length out)
+  unfolding reduce_answer
+  answer_is = rw (s, reduce_answer)
+
+  pub out_is : over (reduced_file f mode size) out ≡ reduce_out f mode size out
   unfolding reduce_out
-  reduce-kept q = rw (← e, q, reduce_out)
+  out_is = rw (s, reduce_out)
 
-  module _ (s : v ≡ Sound) where
-    -- The header of what is written.
-    pub reduce-written : {h : Header} → h ≡ reduced_header f mode size → Written h ≡ reduce_answer f mode size (length out)
+module _ (f : List ℕ) (mode size : ℕ) (out : List ℕ) {v : Result Mode Reason} (e : v ≡ mode_judged f mode size (length out)) where
+  module _ {r : Reason} (q : v ≡ Err r) where
+    faulty : reduce_verdict f mode size (length out) ≡ Faulty r
+    faulty = err_faulty (mode_of mode) (reduce_verdict f mode size (length out)) (sym e ∙ q)
+
+    -- A refusal is told,
+    pub reduce-refused : {a : Refusal} → a ≡ row r → Err a ≡ reduce_answer f mode size (length out)
     unfolding reduce_answer
-    reduce-written q = rw (← e, s, q, reduce_answer)
+    reduce-refused t = rw (faulty, t, reduce_answer)
 
-    pub reduce_file : {new : List ℕ} → new ≡ over (reduced_file f mode size) out → new ≡ reduce_out f mode size out
+    -- and changes nothing.
+    pub reduce-kept : out ≡ reduce_out f mode size out
     unfolding reduce_out
-    reduce_file q = rw (← e, s, q, reduce_out)
+    reduce-kept = rw (faulty, reduce_out)
+
+  module _ {m : Mode} (q : v ≡ Ok m) where
+    sound : reduce_verdict f mode size (length out) ≡ Sound
+    sound = (mode_sound (mode_of mode) (reduce_verdict f mode size (length out)) (sym e ∙ q)).0
+
+    -- The mode's number is the one that is given.
+    number : number_of m ≡ mode
+    number = rw (mode_sound (mode_of mode) (reduce_verdict f mode size (length out)) (sym e ∙ q)).1 (number_back mode (sound_reducible f mode size (length out) sound).mode_is)
+
+    -- So the file may be written,
+    pub reducing_sound : reduce_verdict f (number_of m) size (length out) ≡ Sound
+    reducing_sound = rw number sound
+
+    -- with its header,
+    pub reduce-written : {h : Header} → h ≡ reduced_header f (number_of m) size → Ok h ≡ reduce_answer f mode size (length out)
+    reduce-written p = rw (p, number) (answer_is f mode size out sound)
+
+    -- over the output's front.
+    pub reduce_file : {new : List ℕ} → new ≡ over (reduced_file f (number_of m) size) out → new ≡ reduce_out f mode size out
+    reduce_file p = rw (p, number) (out_is f mode size out sound)

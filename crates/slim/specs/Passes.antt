@@ -1,17 +1,17 @@
 -- The two passes over a stretch of a trace, an epoch or a phase: what the code's functions are told, and what they leave. Assumes nothing.
-use Rattle.std.specs.Prelude.{ℕ, zero, suc, ◌+◌, ◌-◌, ◌*◌, ◌^◌, ◌≤◌, ◌<◌, ◌≡◌, true, false, cond, List, [], ◌∷◌, length, get_or, take, eqb}
+use Rattle.std.specs.Prelude.{ℕ, suc, ◌+◌, ◌-◌, ◌*◌, ◌^◌, ◌≤◌, ◌<◌, ◌≡◌, true, false, cond, List, [], ◌∷◌, length, get_or, take, eqb}
 use Rattle.std.proofs.lemmas.List.Edits.{sets}
 use Rattle.limits.proofs.Numbers.{filter_most}
 use Rattle.pages.specs.Pages.{has, place}
 use Rattle.trace.specs.Layout.{items_from, encode_items}
 use Rattle.trace.specs.Promises.{AreBytes}
 use Rattle.trace.specs.declared.Item.{Item}
-use Rattle.filter.specs.Filter.{Holds, IsFilter, Clear}
+use Rattle.filter.specs.Filter.{Clear}
+pub use Rattle.filter.specs.Filter.{flags_set}
 use Rattle.epochs.specs.Epochs.{pages, touched, cut}
 use Rattle.epochs.specs.Keep.{kept, lost, settled}
 use Rattle.epochs.specs.declared.Mode.{Mode}
 use Rattle.epochs.specs.declared.Mode.TheVariants.{FastSlim, Demand}
-use Rattle.slim.specs.declared.Reach.{Reach}
 
 -- How many pages a stretch may leave in the filter that holds some: an epoch's, or for a phase one more.
 unfoldable pub limit : Mode → ℕ → ℕ → ℕ
@@ -30,24 +30,23 @@ Noted from w filter last = (p : ℕ) → has p (pages w) ≡ true → get_or las
 -- ---- the first pass
 
 -- From item `from` of n on, with a filter of `held` pages that may come to hold `most`.
-pub record CanLook (file : List ℕ) (n from most held : ℕ) (last : List ℕ) (base : ℕ) (heads next : List ℕ) : Type 0 where
+pub record CanLook (file : List ℕ) (n from most held : ℕ) : Type 0 where
   pub file_long : 23 + 19 * n ≤ length file
   pub few : n < 4294967296
   pub within : from ≤ n
   pub holds : held ≤ most
-  pub room : most ≤ length last
-  pub filter : IsFilter file last held base heads next
+  pub room : most ≤ filter_most
 
 -- The stretch from item `from` on is found. The filter, which held the pages seen, holds the stretch's too, and notes the last item of each page of the stretch.
-pub record Looked (file : List ℕ) (n from most : ℕ) (seen : List ℕ) (r : Reach) (last : List ℕ) (base : ℕ) (heads next : List ℕ) : Type 0 where
-  pub stretch_is : (cut most seen (items_from file from (n - from))).here ≡ items_from file from (r.end - from)
-  pub filter : Holds file last r.held base heads next (touched seen (items_from file from (r.end - from)))
-  pub last_noted : Noted from (items_from file from (r.end - from)) (touched seen (items_from file from (r.end - from))) last
+pub record Looked (file : List ℕ) (n from most : ℕ) (seen : List ℕ) (end : ℕ) (filter last : List ℕ) : Type 0 where
+  pub stretch_is : (cut most seen (items_from file from (n - from))).here ≡ items_from file from (end - from)
+  pub filter_is : filter ≡ touched seen (items_from file from (end - from))
+  pub last_noted : Noted from (items_from file from (end - from)) filter last
 
-pub record Within (n from most : ℕ) (r : Reach) : Type 0 where
-  pub begins : from ≤ r.end
-  pub ends : r.end ≤ n
-  pub holds : r.held ≤ most
+pub record Within (n from most end held : ℕ) : Type 0 where
+  pub begins : from ≤ end
+  pub ends : end ≤ n
+  pub holds : held ≤ most
 
 -- ---- the second pass
 
@@ -55,20 +54,12 @@ pub record Within (n from most : ℕ) (r : Reach) : Type 0 where
 pub record NoneNoted (items : List ℕ) (k skip : ℕ) : Type 0 where
   pub none : (i : ℕ) → k ≤ i → i < skip → has i items ≡ false
 
--- How many of the first c flags are set.
-unfoldable pub flags_set : ℕ → List ℕ → ℕ
-flags_set zero flags = 0
-flags_set (suc j) flags = cond (eqb (get_or flags j 0) 1) (suc (flags_set j flags)) (flags_set j flags)
-
--- The stretch from item `from` up to item `end`, where the filter had `had` pages before it, of which `owing` are flagged; no flag behind them is set.
-pub record CanKeep (file : List ℕ) (from end had done owing : ℕ) (filter last flags out : List ℕ) : Type 0 where
+-- The stretch from item `from` up to item `end`, where the filter had `had` pages before it; no flag behind them is set.
+pub record CanKeep (file : List ℕ) (from end had done : ℕ) (filter last flags out : List ℕ) : Type 0 where
   pub file_long : 23 + 19 * end ≤ length file
   pub within : from ≤ end
   pub before : had ≤ length filter
   pub filter_is : filter ≡ touched (take had filter) (items_from file from (end - from))
-  pub notes : length filter ≤ length last
-  pub flags_long : length filter ≤ length flags
-  pub owing_is : owing ≡ flags_set had flags
   pub clear : Clear had flags
   pub last_noted : Noted from (items_from file from (end - from)) filter last
   pub room : 23 + 19 * (done + (end - from)) ≤ length out
@@ -82,21 +73,18 @@ pub record Owes (filter flags owed : List ℕ) : Type 0 where
   pub flagged : (p : ℕ) → has p filter ≡ true → eqb (get_or flags (place p filter) 0) 1 ≡ has p owed
   pub among : (p : ℕ) → has p filter ≡ false → has p owed ≡ false
 
--- The flags after the stretch, whatever was owed before it, and how many of them are set: none behind the filter's.
-pub record Flags (file : List ℕ) (from end had : ℕ) (filter flags flags' : List ℕ) (owing : ℕ) : Type 0 where
-  pub count : owing ≡ flags_set (length filter) flags'
+-- The flags after the stretch, whatever was owed before it: none is set behind the filter's.
+pub record Flags (file : List ℕ) (from end had : ℕ) (filter flags flags' : List ℕ) : Type 0 where
   pub clear : Clear (length filter) flags'
   pub owes : (owed : List ℕ) → Owes (take had filter) flags owed
       → Owes filter flags' (lost Demand (take had filter) owed (items_from file from (end - from)))
 
 -- ---- back over an epoch
 
--- The items of the epoch are in the output from item `from` up to item `to`, and of the flags of the `held` places `owing` are set.
-pub record CanMend (from to held owing : ℕ) (out flags : List ℕ) : Type 0 where
+-- The items of the epoch are in the output from item `from` up to item `to`, and no flag behind those of the `held` places is set.
+pub record CanMend (from to held : ℕ) (out flags : List ℕ) : Type 0 where
   pub within : from ≤ to
   pub room : 23 + 19 * to ≤ length out
-  pub flags_long : held ≤ length flags
-  pub owing_is : owing ≡ flags_set held flags
   pub clear : Clear held flags
 
 -- Pages and times are numbers of 64 bits.
@@ -119,14 +107,12 @@ pub record Mended (filter flags : List ℕ) (from to : ℕ) (out out' : List ℕ
 
 -- ---- all stretches
 
-pub record CanSlim (file : List ℕ) (n size : ℕ) (last heads next owed out : List ℕ) : Type 0 where
+pub record CanSlim (file : List ℕ) (n size held : ℕ) (owed out : List ℕ) : Type 0 where
   pub file_long : 23 + 19 * n ≤ length file
   pub count : n < 4294967296
   pub some : 1 ≤ size
   pub few : size ≤ filter_most
-  pub filter : Holds file last 0 0 heads next []
-  pub room : size ≤ length last
-  pub flags : size ≤ length owed
+  pub empty : held ≡ 0
   pub clear : Clear 0 owed
   pub octets : AreBytes file
   pub fits : 23 + 19 * n ≤ length out

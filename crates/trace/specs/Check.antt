@@ -1,16 +1,13 @@
 -- The answer of `check`: refusals 1 to 4 and 6 in their order, or the four header values. Assumes nothing.
-use Rattle.std.specs.Prelude.{ℕ, zero, suc, ◌+◌, ◌*◌, Bool, not, ◌&&◌, List, [], ◌∷◌, length, drop, ltb, eqb}
+use Rattle.std.specs.Prelude.{ℕ, zero, suc, ◌+◌, ◌*◌, Bool, not, ◌&&◌, List, [], ◌∷◌, length, drop, ltb, eqb, Result, Ok, Err}
 use Rattle.trace.specs.Bytes.{number_at}
 use Rattle.trace.specs.Layout.{tag_of, header, item}
 use Rattle.trace.specs.Rules.{allowed}
 use Rattle.trace.specs.Refusals.{row}
-use Rattle.trace.specs.Verdict.{Test, ◌⇒◌, first, ◌then◌}
+use Rattle.trace.specs.Verdict.{Verdict, Sound, Faulty, Test, ◌⇒◌, first, ◌then◌}
 use Rattle.trace.specs.declared.Header.{Header}
 use Rattle.trace.specs.declared.Reason.TheVariants.{BadHeader, BadValues, BadLength, BadField, TimeFalls}
-use Rattle.trace.specs.declared.Verdict.{Verdict}
-use Rattle.trace.specs.declared.Verdict.TheVariants.{Sound, Faulty}
-use Rattle.trace.specs.declared.Checked.{Checked}
-use Rattle.trace.specs.declared.Checked.TheVariants.{Accepted, Refused}
+use Rattle.trace.specs.declared.Refusal.{Refusal}
 
 -- At place `at` of s stands a field with this tag and this length.
 unfoldable pub is_field : ℕ → ℕ → List ℕ → ℕ → Bool
@@ -50,15 +47,15 @@ items_verdict before i (suc n) s = first (item_tests before i s) then items_verd
 unfoldable pub verdict : List ℕ → Verdict
 verdict f =
     elim (first (header_tests f)) [
-      | Sound ↦ items_verdict 0 0 (header f).items (drop 23 f)
-      | Faulty r ↦ Faulty r
+      | Ok _ ↦ items_verdict 0 0 (header f).items (drop 23 f)
+      | Err r ↦ Faulty r
     ]
 
 -- A verdict as an answer.
-unfoldable pub answer : Header → Verdict → Checked
-answer h Sound = Accepted h
-answer h (Faulty r) = Refused (row r)
+unfoldable pub answer : Header → Verdict → Result Header Refusal
+answer h (Ok _) = Ok h
+answer h (Err r) = Err (row r)
 
 -- "Check, reduce and join answer the four header values of the file checked or written": the answer of check, or its refusal.
-unfoldable pub checked : List ℕ → Checked
+unfoldable pub checked : List ℕ → Result Header Refusal
 checked f = answer (header f) (verdict f)

@@ -8,7 +8,7 @@ use Rattle.trace.specs.Check.{is_field, is_item, checked}
 use Rattle.trace.specs.declared.Item.{Item}
 use Rattle.trace.specs.declared.Header.{Header}
 use Rattle.trace.specs.declared.Reason.{Reason}
-use Rattle.trace.specs.declared.Checked.TheVariants.{Accepted}
+use Rattle.std.specs.Prelude.{Ok}
 
 -- Every number of a row is a byte.
 abbrev pub AreBytes : List ℕ → Type 0
@@ -17,7 +17,7 @@ AreBytes f = (i : ℕ) → get_or f i 0 < 256
 -- A file: a row of bytes that `check` accepts.
 pub record IsFile (f : List ℕ) : Type 0 where
   pub bytes : AreBytes f
-  pub accepted : checked f ≡ Accepted (header f)
+  pub accepted : checked f ≡ Ok (header f)
 
 -- Refusal 4 "now allows tags 5 and 6": a field of 16 bytes under one of these tags is an item's, and no other field is.
 abbrev pub TagsAre : Type 0
@@ -38,7 +38,7 @@ ReadsBack = (h : Header) (t : List Item) → Allowed h t → decode (encode h t)
 
 -- What is written by the rules is accepted.
 abbrev pub IsTaken : Type 0
-IsTaken = (h : Header) (t : List Item) → Allowed h t → checked (encode h t) ≡ Accepted h
+IsTaken = (h : Header) (t : List Item) → Allowed h t → checked (encode h t) ≡ Ok h
 
 -- What is accepted says what the rules allow, and nothing else would be it: a file is determined by what it says.
 pub record Says (f : List ℕ) (h : Header) : Type 0 where
@@ -48,4 +48,4 @@ pub record Says (f : List ℕ) (h : Header) : Type 0 where
   pub written : encode h (items f) ≡ f
 
 abbrev pub IsDetermined : Type 0
-IsDetermined = (f : List ℕ) (h : Header) → AreBytes f → checked f ≡ Accepted h → Says f h
+IsDetermined = (f : List ℕ) (h : Header) → AreBytes f → checked f ≡ Ok h → Says f h

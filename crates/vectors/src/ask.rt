@@ -1,15 +1,16 @@
-// Each of the four calls, on buffers full of noise, compared with what it should answer and leave.
-ghost use Rattle.std.specs.Prelude.{◌≡◌, ◌≤◌, length};
+// Each of the four calls, on buffers full of noise, and what came of it.
+ghost use Rattle.std.specs.Prelude.{◌≡◌, length};
 
-use super::build::File;
-use super::tell::Tally;
-use super::{answer, build, noise, tell};
-use join::Joined;
+use super::answer::Answer;
+use super::noise;
 use limits::Cache;
-use replays::Replayed;
-use slim::Reduced;
-use std::io;
-use trace::Checked;
+
+// The answer, and whether every lent buffer then holds what it should.
+#[derive(Clone, Copy)]
+pub struct Came {
+    pub answer: Answer,
+    pub kept: bool,
+}
 
 // The settings of a reduction, and how many bytes are lent to it.
 #[derive(Clone, Copy)]
@@ -19,167 +20,115 @@ pub struct Reduction {
     pub room: usize,
 }
 
-// The cache size of a replay, how many places and pages of a cache it is lent, and how many numbers for its events.
+// The cache size of a replay, how many places and pages of a cache it is lent, and how many numbers for its events. The cache starts as
+// `start`, with `marks`, and noise beyond it.
 #[derive(Clone, Copy)]
-pub struct Replaying {
+pub struct Replaying<'a> {
     pub size: u64,
     pub places: usize,
     pub resident: usize,
     pub room: usize,
+    pub start: &'a [u64],
+    pub marks: &'a [u64],
 }
 
-fn most(n: usize, limit: usize) -> usize
-    ensures { result ≤ limit }
-{
-    if n < limit { n } else { limit }
+// What the three buffers of a replay should begin with afterwards.
+#[derive(Clone, Copy)]
+pub struct Left<'a> {
+    pub pages: &'a [u64],
+    pub marks: &'a [u64],
+    pub events: &'a [u64],
 }
 
-pub fn check(rt: &impl Print, t: Tally, name: &[u8], f: File, want: [u64; 6]) -> io::Result<Tally> {
-    let bytes = f.bytes;
-    let got = match trace::check(build::shown(&bytes, f.len)) {
-        Checked::Accepted(h) => answer::header(h),
-        Checked::Refused(r) => answer::refusal(r, 0),
+impl Left<'_> {
+    // As they were before.
+    pub const NOTHING: Left<'static> = Left {
+        pages: &[],
+        marks: &[],
+        events: &[],
     };
-    tell::line(rt, t, b"check: ", name, got, want, true)
 }
 
-fn reduce_into(file: &[u8], s: Reduction, out: &mut [u8]) -> [u64; 6] {
-    let room = most(s.room, out.len());
-    noise::fill_bytes(&mut out[0..room]);
-    match slim::reduce(file, s.mode, s.filter, &mut out[0..room]) {
-        Reduced::Written(h) => answer::header(h),
-        Reduced::Refused(r) => answer::refusal(r, 0),
+impl Came {
+    // Of a call on an output full of noise, of which `after` should then be the front.
+    pub fn of<C: FnOnce(&mut [u8]) -> Answer>(out: &mut [u8], after: &[u8], call: C) -> Came
+        requires { C.IsAlwaysCallable call }
+    {
+        noise::fill(out, |i| noise::byte(&[], i));
+        let answer = call(out);
+        let kept = noise::holds(out, |i| noise::byte(after, i));
+        Came { answer, kept }
     }
 }
 
-// `after` is what the output should begin with.
-pub fn reduce(
-    rt: &impl Print,
-    t: Tally,
-    call: &[u8],
-    name: &[u8],
-    f: File,
-    s: Reduction,
-    want: [u64; 6],
-    after: File,
-) -> io::Result<Tally> {
-    let bytes = f.bytes;
-    let left = after.bytes;
-    let mut out = [0u8; 512];
-    let got = reduce_into(build::shown(&bytes, f.len), s, &mut out);
-    let kept = noise::holds_file(&out, s.room, build::shown(&left, after.len));
-    tell::line(rt, t, call, name, got, want, kept)
-}
-
-fn join_into(f: &[u8], g: &[u8], room: usize, out: &mut [u8]) -> [u64; 6] {
-    let lent = most(room, out.len());
-    noise::fill_bytes(&mut out[0..lent]);
-    match join::join(f, g, &mut out[0..lent]) {
-        Joined::Written(h) => answer::header(h),
-        Joined::Refused(r) => answer::refusal(r, 0),
+pub fn check(file: &[u8]) -> Came {
+    Came {
+        answer: trace::check(file).into(),
+        kept: true,
     }
 }
 
-pub fn join(
-    rt: &impl Print,
-    t: Tally,
-    call: &[u8],
-    name: &[u8],
-    f: File,
-    g: File,
-    room: usize,
-    want: [u64; 6],
-    after: File,
-) -> io::Result<Tally> {
-    let one = f.bytes;
-    let two = g.bytes;
-    let left = after.bytes;
-    let mut out = [0u8; 512];
-    let got = join_into(
-        build::shown(&one, f.len),
-        build::shown(&two, g.len),
-        room,
-        &mut out,
-    );
-    let kept = noise::holds_file(&out, room, build::shown(&left, after.len));
-    tell::line(rt, t, call, name, got, want, kept)
+// As many bytes of a buffer as are asked for, or all.
+fn lent(buffer: &mut [u8; 512], room: usize) -> &mut [u8] {
+    &mut buffer[..room.min(512)]
 }
 
-// The buffers are lent whole: each is cut once, by the caller.
-fn replay_whole(
-    file: &[u8],
-    s: Replaying,
-    start: &[u64],
-    marks: &[u64],
-    cache: &mut [u64],
-    kept: &mut [bool],
-    events: &mut [u64],
-) -> [u64; 6]
-    requires { length kept.old ≡ length cache.old }
-{
-    noise::fill_numbers(cache, start);
-    noise::fill_marks(kept, marks);
-    noise::fill_numbers(events, &start[0..0]);
-    match replays::replay_columns(file, s.size, cache, kept, s.resident, events) {
-        Replayed::Done(d) => [0, d.items, d.fetches, d.evictions, d.resident, d.permillion],
-        Replayed::Refused(r, back) => answer::refusal(r, back),
+impl Reduction {
+    pub fn run(&self, file: &[u8], after: &[u8]) -> Came {
+        let mut buffer = [0u8; 512];
+        Came::of(lent(&mut buffer, self.room), after, |out| {
+            slim::reduce(file, self.mode, self.filter, out).into()
+        })
     }
 }
 
-fn replay_into(
-    file: &[u8],
-    s: Replaying,
-    start: &[u64],
-    marks: &[u64],
-    cache: &mut [u64],
-    kept: &mut [bool],
-    events: &mut [u64],
-) -> [u64; 6]
-    requires { length kept.old ≡ length cache.old }
-{
-    let places = most(s.places, cache.len());
-    let room = most(s.room, events.len());
-    replay_whole(
-        file,
-        s,
-        start,
-        marks,
-        &mut cache[0..places],
-        &mut kept[0..places],
-        &mut events[0..room],
-    )
+pub fn join(f: &[u8], g: &[u8], room: usize, after: &[u8]) -> Came {
+    let mut buffer = [0u8; 512];
+    Came::of(lent(&mut buffer, room), after, |out| {
+        join::join(f, g, out).into()
+    })
 }
 
-// The cache starts as `start`, with `marks`, and noise beyond it; `pages`, `kept` and `events` are what the three buffers should begin with afterwards.
-pub fn replay(
-    rt: &impl Print,
-    t: Tally,
-    call: &[u8],
-    name: &[u8],
-    f: File,
-    s: Replaying,
-    start: &[u64],
-    marks: &[u64],
-    want: [u64; 6],
-    pages: &[u64],
-    kept: &[u64],
-    events: &[u64],
-) -> io::Result<Tally> {
-    let bytes = f.bytes;
-    let mut cache = [0u64; Cache::PLACES + 1];
-    let mut column = [false; Cache::PLACES + 1];
-    let mut out = [0u64; 64];
-    let got = replay_into(
-        build::shown(&bytes, f.len),
-        s,
-        start,
-        marks,
-        &mut cache,
-        &mut column,
-        &mut out,
-    );
-    let one = noise::holds_numbers(&cache, s.places, pages, start);
-    let two = noise::holds_marks(&column, s.places, kept, marks);
-    let three = noise::holds_numbers(&out, s.room, events, &start[0..0]);
-    tell::line(rt, t, call, name, got, want, one && two && three)
+impl Replaying<'_> {
+    pub fn run(&self, file: &[u8], left: Left) -> Came {
+        let mut cache = [0u64; Cache::PLACES + 1];
+        let mut column = [false; Cache::PLACES + 1];
+        let mut out = [0u64; 64];
+        let places = self.places.min(cache.len());
+        let room = self.room.min(out.len());
+        self.lent(
+            file,
+            left,
+            &mut cache[..places],
+            &mut column[..places],
+            &mut out[..room],
+        )
+    }
+
+    fn lent(
+        &self,
+        file: &[u8],
+        left: Left,
+        cache: &mut [u64],
+        column: &mut [bool],
+        events: &mut [u64],
+    ) -> Came
+        requires { length column.old ≡ length cache.old }
+    {
+        noise::fill(cache, |i| noise::number(self.start, &[], i));
+        noise::fill(column, |i| noise::mark(self.marks, &[], i));
+        noise::fill(events, |i| noise::number(&[], &[], i));
+        let answer = replays::replay_columns(
+            file,
+            self.size,
+            cache,
+            column,
+            self.resident,
+            events,
+        ).into();
+        let kept = noise::holds(cache, |i| noise::number(left.pages, self.start, i))
+            && noise::holds(column, |i| noise::mark(left.marks, self.marks, i))
+            && noise::holds(events, |i| noise::number(left.events, &[], i));
+        Came { answer, kept }
+    }
 }

@@ -1,10 +1,12 @@
 // A file that is taken.
-use super::tell::Tally;
-use super::{answer, ask, build, table};
+use super::ask;
+use super::row::Row;
+use super::tell::Report;
 use std::io;
 
 // A line `c`: the four header values, the items, and their marks.
-pub fn tried(rt: &impl Print, t: Tally, name: &[u8], n: [u64; 48]) -> io::Result<Tally> {
-    let want = answer::header(build::head(n[0], n[1], n[2], n[3]));
-    ask::check(rt, t, name, table::file_in(n), want)
+pub fn tried(report: &mut Report<impl Print>, row: &Row) -> io::Result<()> {
+    let file = row.file();
+    let h = row.numbers().header();
+    report.line("check", row.name, ask::check(file.as_slice()), h.into())
 }

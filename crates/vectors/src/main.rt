@@ -18,7 +18,7 @@ mod tell;
 
 use reading::read_full;
 use std::io;
-use tell::Tally;
+use tell::Report;
 
 // A longer table is cut at so many bytes.
 const MOST: usize = 65536;
@@ -26,10 +26,7 @@ const MOST: usize = 65536;
 fn main(rt: HostRuntime) -> io::Result<()> {
     let mut buffer = [0u8; MOST];
     let n = read_full(&mut rt.stdin(), &mut buffer)?;
-    let t = Tally {
-        passed: 0,
-        failed: 0,
-    };
-    let t = table::each(&rt, t, &buffer[..n])?;
-    tell::total(&rt, t)
+    let mut report = Report::new(&rt);
+    table::each(&mut report, &buffer[..n])?;
+    report.total()
 }

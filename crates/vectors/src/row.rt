@@ -1,169 +1,158 @@
-// Tables as text: a line has the letter of its form, numbers, parted by a space or a slash, then a colon and a name. A dash is 0.
-ghost use Rattle.std.specs.Prelude.{◌<◌, ◌≤◌, length};
+// A line of the table: the letter of its form, a space, numbers, parted by a space or a slash, then a colon and a name. A dash is 0.
+use super::build::{self, File};
+use replays::Summary;
+use trace::{Header, Refusal};
 
-// The form and the numbers of a line, where its name stands, and where the next line begins.
-#[derive(Drop)]
-pub struct Row {
+// A line keeps so many numbers.
+const MOST: usize = 48;
+
+#[derive(Clone, Copy)]
+pub struct Row<'a> {
+    numbers: [u64; MOST],
     pub form: u8,
-    pub numbers: [u64; 48],
-    pub from: usize,
-    pub to: usize,
-    pub next: usize,
+    pub name: &'a [u8],
+    // The file that the line is on.
+    pub on: &'a File,
 }
 
-#[derive(Drop)]
-pub struct Read {
-    pub numbers: [u64; 48],
-    pub next: usize,
+// The numbers of a line, taken off its front. Those left out are 0.
+#[derive(Clone, Copy)]
+pub struct Numbers<'a> {
+    rest: &'a [u64],
 }
 
-fn line_end(text: &[u8], at: usize) -> usize
-    requires { at < length text.now }
-    ensures { at ≤ result }
-{
-    let mut p = at;
-    while p < text.len() {
-        if text[p] == b'\n' {
-            return p;
-        }
-        p += 1;
-    }
-    p
-}
-
-fn next_line(text: &[u8], at: usize) -> usize
-    requires { at < length text.now }
-    ensures { at < result }
-{
-    let end = line_end(text, at);
-    if end < text.len() {
-        return end + 1;
-    }
-    end
-}
-
-fn past(text: &[u8], at: usize) -> usize {
-    if at < text.len() { at + 1 } else { at }
-}
-
-// A number with one digit more. No table has a number that does not fit.
-fn with_digit(x: u64, digit: u8) -> u64 {
-    if digit < 48 {
-        return x;
-    }
-    if 1844674407370955161 < x {
-        return x;
-    }
-    (x * 10).wrapping_add((digit - 48) as u64)
-}
-
-// The numbers up to the colon, and the place behind it.
-fn read_numbers(text: &[u8], at: usize) -> Read {
-    let mut numbers = [0u64; 48];
-    let mut i = 0usize;
-    let mut p = at;
-    while p < text.len() {
-        let b = text[p];
-        p += 1;
-        if b == b':' {
-            return Read { numbers, next: p };
-        }
-        if b == b' ' || b == b'/' {
-            if i < 47 {
-                i += 1;
-            }
-        } else {
-            numbers[i] = with_digit(numbers[i], b);
-        }
-    }
-    Read { numbers, next: p }
-}
-
-pub fn row_at(text: &[u8], at: usize) -> Row
-    requires { at < length text.now }
-    ensures { at < result.next }
-{
-    let r = read_numbers(text, past(text, past(text, at)));
-    let numbers = r.numbers;
-    Row {
-        form: text[at],
-        numbers,
-        from: past(text, r.next),
-        to: line_end(text, at),
-        next: next_line(text, at),
+// A number with one digit more, a byte's distance from `0`. A byte below that, as a dash, changes nothing, nor does a digit for which a number is
+// too large; a sum that does not fit wraps.
+fn with_digit(x: u64, b: u8) -> u64 {
+    match (x.checked_mul(10), b.checked_sub(b'0')) {
+        (Some(tens), Some(digit)) => tens.wrapping_add(u64::from(digit)),
+        _ => x,
     }
 }
 
-// The text from a place up to another.
-pub fn between(text: &[u8], from: usize, to: usize) -> &[u8] {
-    if to <= text.len() {
-        if from <= to {
-            return &text[from..to];
-        }
+// The digits of words behind the last number that a line keeps go on with that number.
+fn numbers_in(words: &[u8]) -> [u64; MOST] {
+    let mut numbers = [0u64; MOST];
+    for (i, word) in words.split(|b| *b == b' ' || *b == b'/').enumerate() {
+        let place = &mut numbers[i.min(MOST - 1)];
+        *place = word.iter().fold(*place, |x, b| with_digit(x, *b));
     }
-    &text[0..0]
-}
-
-fn bar(text: &[u8]) -> usize {
-    let mut p = 0;
-    while p < text.len() {
-        if text[p] == b'|' {
-            return p;
-        }
-        p += 1;
-    }
-    p
-}
-
-// A name, and what stands behind a bar after it.
-pub fn before_bar(text: &[u8]) -> &[u8] {
-    between(text, 0, bar(text))
-}
-
-pub fn behind_bar(text: &[u8]) -> &[u8] {
-    between(text, past(text, bar(text)), text.len())
-}
-
-// A list in a row: its numbers, the first so many of them, those behind them, and the one at a place.
-pub fn list(numbers: &[u64; 48]) -> &[u64] {
     numbers
 }
 
-pub fn first(s: &[u64], n: u64) -> &[u64] {
-    let end = n as usize;
-    if end < s.len() {
-        return &s[0..end];
+impl<'a> Row<'a> {
+    // The line at the front of `text`, or None where it is empty. A line with no colon has no name, and its numbers go on in the lines below,
+    // up to a colon.
+    pub fn parse(line: &'a [u8], text: &[u8], on: &'a File) -> Option<Row<'a>> {
+        let form = *line.first()?;
+        let words = text.get(2..).unwrap_or(&[]);
+        let colon = words.iter().position(|b| *b == b':');
+        let end = colon.unwrap_or(words.len());
+        Some(Row {
+            numbers: numbers_in(&words[..end]),
+            form,
+            // Behind the letter and a space, and behind the colon and a space.
+            name: line.get(end.saturating_add(4)..).unwrap_or(&[]),
+            on,
+        })
     }
-    s
-}
 
-// The first so many pairs, the marks behind them, and the first so many fours. No row has as many as twenty.
-pub fn pairs(s: &[u64], n: u64) -> &[u64] {
-    if n < 20 {
-        return first(s, 2 * n);
+    pub fn numbers(&self) -> Numbers<'_> {
+        Numbers {
+            rest: &self.numbers,
+        }
     }
-    s
-}
 
-pub fn marks(s: &[u64], n: u64) -> &[u64] {
-    first(behind(s, pairs(s, n).len() as u64), n)
-}
-
-pub fn fours(s: &[u64], n: u64) -> &[u64] {
-    if n < 20 {
-        return first(s, 4 * n);
+    // The four header values, the items, and their marks.
+    pub fn file(&self) -> File {
+        let mut numbers = self.numbers();
+        let h = numbers.header();
+        numbers.file(h, h.items)
     }
-    s
 }
 
-pub fn behind(s: &[u64], n: u64) -> &[u64] {
-    let start = n as usize;
-    if start < s.len() {
-        return &s[start..];
+impl<'a> Numbers<'a> {
+    pub fn one(&mut self) -> u64 {
+        match self.rest.split_first() {
+            Some((x, rest)) => {
+                self.rest = rest;
+                *x
+            }
+            None => 0,
+        }
     }
-    &s[0..0]
-}
 
-pub fn at(s: &[u64], i: usize) -> u64 {
-    if i < s.len() { s[i] } else { 0 }
+    pub fn size(&mut self) -> usize {
+        self.one() as usize
+    }
+
+    pub fn byte(&mut self) -> u8 {
+        build::low(self.one())
+    }
+
+    // A refusal of the first trace and of no item, or 0 for none.
+    pub fn refusal(&mut self) -> Option<Refusal> {
+        match self.one() {
+            0 => None,
+            number => Some(Refusal {
+                number,
+                trace: 1,
+                item: 0,
+            }),
+        }
+    }
+
+    // A refusal of the first trace, and the item at fault.
+    pub fn at_item(&mut self) -> Refusal {
+        Refusal {
+            number: self.one(),
+            trace: 1,
+            item: self.one(),
+        }
+    }
+
+    // The next so many, or all that there are.
+    pub fn list(&mut self, count: u64) -> &'a [u64] {
+        let n = self.rest.len().min(count as usize);
+        let (list, rest) = self.rest.split_at(n);
+        self.rest = rest;
+        list
+    }
+
+    // So many items, each a page and a time. No row has twenty: so many, or more, are all that there is.
+    pub fn items(&mut self, count: u64) -> &'a [u64] {
+        let all = self.rest.len() as u64;
+        self.list(if count < 20 { 2 * count } else { all })
+    }
+
+    // All that are left.
+    pub fn left(&self) -> &'a [u64] {
+        self.rest
+    }
+
+    pub fn header(&mut self) -> Header {
+        Header {
+            kind: self.one(),
+            filter: self.one(),
+            references: self.one(),
+            items: self.one(),
+        }
+    }
+
+    pub fn summary(&mut self) -> Summary {
+        Summary {
+            items: self.one(),
+            fetches: self.one(),
+            evictions: self.one(),
+            resident: self.one(),
+            permillion: self.one(),
+        }
+    }
+
+    // A file of this header and so many items, which come next, and then their marks.
+    pub fn file(&mut self, h: Header, count: u64) -> File {
+        let items = self.items(count);
+        let marks = self.list(count);
+        build::file_of(h, items, marks)
+    }
 }

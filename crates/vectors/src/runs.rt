@@ -1,84 +1,49 @@
 // A replay: its answer, the cache with its marks, and every event.
-use super::ask::Replaying;
-use super::build::File;
-use super::tell::Tally;
-use super::{ask, row};
+use super::answer::Answer;
+use super::ask::{Left, Replaying};
+use super::row::Row;
+use super::tell::Report;
 use std::io;
 
-// What follows the start in the line: items, fetches, evictions, resident pages and the rate; these pages; the events; and the marks of the
-// start and of the resident pages.
-fn ran(
-    rt: &impl Print,
-    t: Tally,
-    name: &[u8],
-    f: File,
-    s: Replaying,
-    start: &[u64],
-    rest: &[u64],
-) -> io::Result<Tally> {
-    let fetches = row::at(rest, 1);
-    let resident = row::at(rest, 3);
-    let want = [
-        0,
-        row::at(rest, 0),
-        fetches,
-        row::at(rest, 2),
-        resident,
-        row::at(rest, 4),
-    ];
-    let lists = row::behind(rest, 5);
-    let pages = row::first(lists, resident);
-    let told = row::behind(lists, resident);
-    let events = row::fours(told, fetches);
-    let marks = row::behind(told, events.len() as u64);
-    let count = start.len() as u64;
-    ask::replay(
-        rt,
-        t,
-        b"replay: ",
-        name,
-        f,
-        s,
-        start,
-        row::first(marks, count),
-        want,
-        pages,
-        row::first(row::behind(marks, count), resident),
-        events,
-    )
-}
-
 // A line `p`: cache size, places, resident count, room and the refusal, or 0 for it; how many numbers the cache starts with, and these; where it is
-// refused, then their marks.
-pub fn tried(rt: &impl Print, t: Tally, name: &[u8], f: File, n: [u64; 48]) -> io::Result<Tally> {
-    let s = Replaying {
-        size: n[0],
-        places: n[1] as usize,
-        resident: n[2] as usize,
-        room: n[3] as usize,
+// refused, then their marks. Where it is not, items, fetches, evictions, resident pages and the rate; these pages; the events; and the marks
+// of the start and of the resident pages.
+pub fn tried(report: &mut Report<impl Print>, row: &Row) -> io::Result<()> {
+    let mut numbers = row.numbers();
+    let size = numbers.one();
+    let places = numbers.size();
+    let resident = numbers.size();
+    let room = numbers.size();
+    let refusal = numbers.refusal();
+    let count = numbers.one();
+    let start = numbers.list(count);
+    let (want, pages, events) = match refusal {
+        Some(r) => (
+            Answer::refused(r, resident as u64),
+            numbers.list(0),
+            numbers.list(0),
+        ),
+        None => {
+            let tally = numbers.summary();
+            let pages = numbers.list(tally.resident);
+            let events = numbers.list(tally.fetches.saturating_mul(4));
+            (tally.into(), pages, events)
+        }
     };
-    // Lent from a copy: a row that is lent cannot be read.
-    let copy = n;
-    let lists = row::behind(row::list(&copy), 6);
-    let start = row::first(lists, n[5]);
-    let rest = row::behind(lists, n[5]);
-    if n[4] == 0 {
-        return ran(rt, t, name, f, s, start, rest);
-    }
-    let want = [n[4], 1, 0, n[2], 0, 0];
-    let marks = row::first(rest, n[5]);
-    ask::replay(
-        rt,
-        t,
-        b"replay: ",
-        name,
-        f,
-        s,
+    let marks = numbers.list(count);
+    let left = Left {
+        pages,
+        marks: numbers.list(pages.len() as u64),
+        events,
+    };
+    let s = Replaying {
+        size,
+        places,
+        resident,
+        room,
         start,
         marks,
-        want,
-        &[],
-        &[],
-        &[],
-    )
+    };
+    let came = s.run(row.on.as_slice(), left);
+    report.line("replay", row.name, came, want)
 }

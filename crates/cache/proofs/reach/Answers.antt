@@ -1,11 +1,8 @@
 -- `cache::reach` meets its contract. Assumes nothing.
-use Rattle.cache.proofs.Widening.{reach_short, reach_long}
+use mathlib.Core.Path.{◌∙◌}
+use Rattle.cache.proofs.Widening.{reach_min}
 use Rattle.cache.proofs.reach.Goals as goal
 
-pub returns-then-n-lt-PLACES : goal.returns-then-n-lt-PLACES
-returns-then-n-lt-PLACES c =
-    search (reach_short, reach_long)
-
-pub returns-else-n-lt-PLACES : goal.returns-else-n-lt-PLACES
-returns-else-n-lt-PLACES c =
-    search (reach_short, reach_long)
+pub returns : goal.returns
+returns c =
+    c.min.ensures ∙ reach_min c.args.n

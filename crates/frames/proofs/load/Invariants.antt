@@ -1,15 +1,11 @@
 -- The first i elements of each column are those of the frames. Assumes nothing.
-use Rattle.std.proofs.Common.{ℕ, ◌-◌, ◌≡◌, ◌≤◌, false, take, get_or}
+use Rattle.std.proofs.Common.{ℕ, ◌≡◌, length, false, take, get_or}
 use Rattle.frames.specs.Frames.{pages_of, marks_of}
 use Rattle.frames.proofs.Fill.{filled}
 use Rattle.frames.proofs.load.Given as goal
 
 abbrev pub invariant-loop-i : goal.invariant-loop-i
 invariant-loop-i l = record {
-  within : l.i ≤ l.n;
-  pages : l.pages ≡ filled (λ (k : ℕ). get_or (pages_of (take l.n l.fs)) k 0) l.initial.pages l.i;
-  marks : l.written ≡ filled (λ (k : ℕ). get_or (marks_of (take l.n l.fs)) k false) l.initial.written l.i;
+  pages : l.pages ≡ filled (λ (k : ℕ). get_or (pages_of (take (length l.initial.pages) l.fs)) k 0) l.initial.pages l.i;
+  marks : l.written ≡ filled (λ (k : ℕ). get_or (marks_of (take (length l.initial.pages) l.fs)) k false) l.initial.written l.i;
 }
-
-abbrev pub decreases-loop-i : goal.decreases-loop-i
-decreases-loop-i l = l.n - l.i

@@ -7,7 +7,6 @@ use Rattle.frames.proofs.save.Goals as goal
 
 pub loop-i-preserved : goal.loop-i-preserved
 loop-i-preserved c = record {
-  within = omega arith;
   frames = filled_next (frames_of c.args.pages.now c.args.written.now) c.args.fs.now blank c.loop-i.i c.loop-i.invariant.frames
       (frames-get_or c.args.pages.now c.args.written.now c.loop-i.i c.requires.1 c.loop-i-test.true);
 }

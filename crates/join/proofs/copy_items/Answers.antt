@@ -9,24 +9,12 @@ pub loop-i-init : goal.loop-i-init
 loop-i-init c =
     search laws
 
-pub item_at-x-requires : goal.item_at-x-requires
-item_at-x-requires c =
-    search laws
-
 pub overflow_add-at : goal.overflow_add-at
 overflow_add-at c =
     search laws
 
 pub item-requires : goal.item-requires
 item-requires c =
-    search laws
-
-pub overflow_add-i : goal.overflow_add-i
-overflow_add-i c =
-    search laws
-
-pub loop-i-smaller : goal.loop-i-smaller
-loop-i-smaller c =
     search laws
 
 pub loop-i-preserved : goal.loop-i-preserved

@@ -1,13 +1,14 @@
 -- `lines::settings_verdict` meets its contract. Assumes nothing.
 use borrow.Author.Tests.{lt-ltb, le-ltb}
-use Rattle.trace.proofs.Tests.{test_fails, test_passes, tests_done}
-use Rattle.lines.proofs.Settings.{flag_outside, flag_within, flag_there, flag_missing}
+use Rattle.limits.proofs.Made.{number_out, number_in}
+use Rattle.trace.proofs.Tests.{test_fails, test_passes, tests_done, holds, lacks}
+use Rattle.lines.proofs.Settings.{flag_there, flag_missing}
 use Rattle.lines.proofs.settings_verdict.Goals as goal
 
-ruleset laws = (test_fails, test_passes, tests_done, flag_outside, flag_within, flag_there, flag_missing, lt-ltb, le-ltb)
+ruleset laws = (test_fails, test_passes, tests_done, holds, lacks, number_out, number_in, flag_there, flag_missing, lt-ltb, le-ltb)
 
-pub returns-in-Outside : goal.returns-in-Outside
-returns-in-Outside c =
+pub returns-then-is_none : goal.returns-then-is_none
+returns-then-is_none c =
     search laws depth 10
 
 pub returns-then-input-len : goal.returns-then-input-len

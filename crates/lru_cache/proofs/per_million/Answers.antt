@@ -1,13 +1,8 @@
 -- `lru_cache::per_million` meets its contract. Assumes nothing.
-use Rattle.lru_cache.proofs.Counting.{rate_none, rate_some}
+use mathlib.Core.Path.{◌∙◌}
+use Rattle.lru_cache.proofs.Counting.{rate_is}
 use Rattle.lru_cache.proofs.per_million.Goals as goal
-
-ruleset laws = (rate_none, rate_some)
-
-pub returns-then-items-eq0 : goal.returns-then-items-eq0
-returns-then-items-eq0 c =
-    search laws
 
 pub returns : goal.returns
 returns c =
-    search laws
+    c.unwrap_or.ensures ∙ rate_is c.args.fetches c.args.items c.checked_div.result c.checked_div.ensures

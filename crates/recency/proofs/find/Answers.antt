@@ -1,40 +1,40 @@
 -- `recency::find` meets its contract. Assumes nothing.
 use borrow.Author.Rules.{rules}
-use Rattle.recency.proofs.Linking.{find_bucket, find_none, find_reads, find_next, find_less, find_end, find_here, find_more}
+use Rattle.recency.proofs.Linking.{find_none, find_end, find_below, find_reads, find_next, find_less, find_here, find_more}
 use Rattle.recency.proofs.find.Goals as goal
 
-pub head-e-requires : goal.head-e-requires
-head-e-requires c =
-    search (find_bucket, rules)
-
-pub loop-e-init : goal.loop-e-init
-loop-e-init c =
+pub loop-last-init : goal.loop-last-init
+loop-last-init c =
     search find_none
 
-pub offset_bounds-log-e : goal.offset_bounds-log-e
-offset_bounds-log-e c =
+pub offset_bounds-pages-j : goal.offset_bounds-pages-j
+offset_bounds-pages-j c =
     search (find_reads, rules)
 
-pub bounds-log-e : goal.bounds-log-e
-bounds-log-e c =
+pub bounds-pages-j : goal.bounds-pages-j
+bounds-pages-j c =
     search find_reads
 
-pub returns-then-log-e : goal.returns-then-log-e
-returns-then-log-e c =
-    search find_here
+pub returns-then-pages-j : goal.returns-then-pages-j
+returns-then-pages-j c =
+    find_here c.requires c.loop-last.invariant c.in-Some.is c.args.low c.if-low-j.true c.if-pages-j.true
 
-pub link-e-requires : goal.link-e-requires
-link-e-requires c =
-    search find_next
+pub link-last-requires : goal.link-last-requires
+link-last-requires c =
+    search (find_next, rules)
 
-pub loop-e-smaller : goal.loop-e-smaller
-loop-e-smaller c =
-    search find_less
+pub loop-last-smaller : goal.loop-last-smaller
+loop-last-smaller c =
+    find_less c.requires c.loop-last.invariant c.in-Some.is c.link-last.ensures
 
-pub loop-e-preserved : goal.loop-e-preserved
-loop-e-preserved c =
-    search find_more
+pub loop-last-preserved : goal.loop-last-preserved
+loop-last-preserved c =
+    find_more c.requires c.loop-last.invariant c.in-Some.is c.if-pages-j.false c.link-last.ensures
 
-pub returns : goal.returns
-returns c =
+pub returns-in-loop-last : goal.returns-in-loop-last
+returns-in-loop-last c =
     search find_end
+
+pub returns-else-low-j : goal.returns-else-low-j
+returns-else-low-j c =
+    find_below c.requires c.loop-last.invariant c.in-Some.is c.args.low c.if-low-j.false

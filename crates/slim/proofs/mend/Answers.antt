@@ -1,93 +1,45 @@
 -- `slim::mend` meets its contract. Assumes nothing.
-use mathlib.Core.Path.{◌∙◌}
+use mathlib.Core.Path.{sym, ◌∙◌}
 use native.Mathlib.Omega.{arith}
-use borrow.Author.Rules.{rules}
 use Rattle.filter.proofs.Noting.{notes_long}
-use Rattle.filter.proofs.Bits.{flag_bit, bytes-kept}
-use Rattle.slim.proofs.Mending.{mending_none, mending_long, mending_stop, mending_clear, mending_all, mending_set, mending_leave}
+use Rattle.filter.proofs.Bits.{flag_bit, zeros_clear}
+use Rattle.slim.proofs.Mending.{mending_none, mending_stop, mending_clear, mending_all, mending_found, mending_set, mending_leave}
 use Rattle.slim.proofs.mend.Goals as goal
 
-ruleset laws = (mending_none, notes_long, rules)
-
+-- There is a flag for each place.
 pub loop-k-init : goal.loop-k-init
 loop-k-init c =
-    search laws
-
-pub shape_of-out-then-left-eq0 : goal.shape_of-out-then-left-eq0
-shape_of-out-then-left-eq0 c =
-    search laws
-
--- The flags' bytes are as many as before.
-pub shape_of-owed-then-left-eq0 : goal.shape_of-owed-then-left-eq0
-shape_of-owed-then-left-eq0 c =
-    bytes-kept _ _ c.loop-k.invariant.flags_same
+    let within = c.args.table.now.is.notes.within in
+    mending_none c.requires (omega (arith, notes_long c.args.table.now.is.notes, c.args.owed.now.is_long))
 
 -- No flag is set: all is settled.
-pub returns-then-left-eq0 : goal.returns-then-left-eq0
-returns-then-left-eq0 c =
-    record { mended = mending_stop c.loop-k.invariant c.if-left-eq0.true; clear = mending_clear c.loop-k.invariant c.if-left-eq0.true (flag_bit _) }
+pub returns-then-owed-eq0 : goal.returns-then-owed-eq0
+returns-then-owed-eq0 c =
+    let none = sym c.loop-k.owed.is_count ∙ c.if-owed-eq0.true in
+    record {
+      mended = mending_stop c.loop-k.invariant c.loop-k.owed.is_long none;
+      clear = mending_clear c.loop-k.invariant c.loop-k.owed.is_long none (flag_bit _);
+    }
 
-pub overflow_sub-a : goal.overflow_sub-a
-overflow_sub-a c =
-    search laws
-
-pub item_at-x-requires : goal.item_at-x-requires
-item_at-x-requires c =
-    search laws
-
--- An item's page may be looked for by its flag.
-pub find_flagged-j-requires : goal.find_flagged-j-requires
-find_flagged-j-requires c =
-    record { filter = c.requires.filter; held_in_bounds = mending_long c.loop-k.invariant }
-
--- Its page has a flag.
-pub put_flag-requires : goal.put_flag-requires
-put_flag-requires c =
-    let long = mending_long c.loop-k.invariant in
-    let here = c.if-j-held.true in
-    record { j_in_bounds = omega arith; v_bound = omega arith }
-
-pub overflow_sub-left : goal.overflow_sub-left
-overflow_sub-left c =
-    search laws
-
-pub item-requires : goal.item-requires
-item-requires c =
-    search laws
-
-pub loop-k-smaller-then-j-held : goal.loop-k-smaller-then-j-held
-loop-k-smaller-then-j-held c =
-    search laws
+-- The page of an item has a flag.
+pub put-requires : goal.put-requires
+put-requires c =
+    let found = mending_found c.loop-k.invariant c.loop-k-test.true c.item_at-x.ensures c.in-Some.ensures in
+    let long = notes_long c.args.table.now.is.notes in
+    let within = c.args.table.now.is.notes.within in
+    omega (arith, found)
 
 -- A turn settles the last item of a page that is owed a write,
-pub loop-k-preserved-then-j-held : goal.loop-k-preserved-then-j-held
-loop-k-preserved-then-j-held c =
-    rw c.put_flag.ensures
-    (mending_set c.loop-k.invariant c.loop-k-test.true c.item_at-x.ensures c.find_flagged-j.ensures c.if-j-held.true c.item.ensures)
-
-pub loop-k-smaller : goal.loop-k-smaller
-loop-k-smaller c =
-    search laws
+pub loop-k-preserved-in-Some : goal.loop-k-preserved-in-Some
+loop-k-preserved-in-Some c =
+    rw c.put.ensures (mending_set c.loop-k.invariant c.loop-k-test.true c.item_at-x.ensures c.in-Some.ensures c.item.ensures)
 
 -- or leaves an item as it is.
 pub loop-k-preserved : goal.loop-k-preserved
 loop-k-preserved c =
-    mending_leave c.loop-k.invariant c.loop-k-test.true c.item_at-x.ensures c.find_flagged-j.ensures c.if-j-held.false
-
-pub clear_flags-requires : goal.clear_flags-requires
-clear_flags-requires c =
-    search laws
-
-pub shape_of-out : goal.shape_of-out
-shape_of-out c =
-    search laws
-
-pub shape_of-owed : goal.shape_of-owed
-shape_of-owed c =
-    let cleared = c.clear_flags.auto.flags in
-    cleared ∙ bytes-kept _ _ c.loop-k.invariant.flags_same
+    mending_leave c.loop-k.invariant c.loop-k-test.true c.item_at-x.ensures c.in_default.ensures
 
 -- All items are passed.
 pub returns : goal.returns
 returns c =
-    record { mended = mending_all c.loop-k.invariant c.loop-k-test.false; clear = c.clear_flags.ensures }
+    record { mended = mending_all c.loop-k.invariant c.loop-k-test.false; clear = zeros_clear 1024 c.clear.ensures }

@@ -7,7 +7,7 @@ unfolding tag_of
 returns-then-written c =
     rw c.if-written.true
 
-pub returns : goal.returns
+pub returns-else-written : goal.returns-else-written
 unfolding tag_of
-returns c =
+returns-else-written c =
     rw c.if-written.false

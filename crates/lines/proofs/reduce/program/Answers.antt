@@ -5,16 +5,16 @@ use Rattle.lines.proofs.reduce.program.Goals as goal
 
 ruleset laws = (settings_refused, settings_long, settings_mode, library_refused, library_bytes, library_fits, library_written, rules)
 
-pub returns-in-Faulty : goal.returns-in-Faulty
-returns-in-Faulty c =
+pub returns-in-Err : goal.returns-in-Err
+returns-in-Err c =
     search laws
 
-pub u8_at-mode-requires : goal.u8_at-mode-requires
-u8_at-mode-requires c =
+pub number_at-mode-requires-clause-in_bounds : goal.number_at-mode-requires-clause-in_bounds
+number_at-mode-requires-clause-in_bounds c =
     search laws
 
-pub u16_at-size-requires : goal.u16_at-size-requires
-u16_at-size-requires c =
+pub number_at-size-requires-clause-in_bounds : goal.number_at-size-requires-clause-in_bounds
+number_at-size-requires-clause-in_bounds c =
     search laws
 
 pub slice_bounds-reduce-count : goal.slice_bounds-reduce-count
@@ -33,10 +33,10 @@ pub overflow_add-result : goal.overflow_add-result
 overflow_add-result c =
     search laws
 
-pub returns-in-Refused : goal.returns-in-Refused
-returns-in-Refused c =
+pub returns-in-Err-reduce : goal.returns-in-Err-reduce
+returns-in-Err-reduce c =
     search laws
 
-pub returns-in-Written : goal.returns-in-Written
-returns-in-Written c =
+pub returns-in-Ok : goal.returns-in-Ok
+returns-in-Ok c =
     search laws

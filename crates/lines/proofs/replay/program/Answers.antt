@@ -5,12 +5,12 @@ use Rattle.lines.proofs.replay.program.Goals as goal
 
 ruleset laws = (settings_refused, settings_long, trace_short, program_done, rules)
 
-pub returns-in-Faulty : goal.returns-in-Faulty
-returns-in-Faulty c =
+pub returns-in-Err : goal.returns-in-Err
+returns-in-Err c =
     search laws
 
-pub u16_at-k-requires : goal.u16_at-k-requires
-u16_at-k-requires c =
+pub number_at-k-requires-clause-in_bounds : goal.number_at-k-requires-clause-in_bounds
+number_at-k-requires-clause-in_bounds c =
     search laws
 
 pub slice_bounds-put_replay-count : goal.slice_bounds-put_replay-count

@@ -9,10 +9,10 @@ pub put_report-requires : goal.put_report-requires
 put_report-requires c =
     record { fetches_in_bounds = search laws; resident_in_bounds = search laws; resident_in_bounds_2 = search laws }
 
-pub returns-in-Refused : goal.returns-in-Refused
-returns-in-Refused c =
+pub returns-in-Err : goal.returns-in-Err
+returns-in-Err c =
     search laws
 
-pub returns-in-Done : goal.returns-in-Done
-returns-in-Done c =
+pub returns-in-Ok : goal.returns-in-Ok
+returns-in-Ok c =
     search laws

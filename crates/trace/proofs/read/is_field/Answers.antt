@@ -1,13 +1,11 @@
--- `trace::read::is_field` meets its contract. Assumes nothing.
+-- `read::is_field` meets its contract. Assumes nothing.
 use Rattle.trace.proofs.Reading.{field_other, field_tagged}
 use Rattle.trace.proofs.read.is_field.Goals as goal
 
-ruleset laws = (field_other, field_tagged)
+pub returns-then-number_at-tag : goal.returns-then-number_at-tag
+returns-then-number_at-tag c =
+    search field_tagged
 
-pub returns-then-u8_at-tag : goal.returns-then-u8_at-tag
-returns-then-u8_at-tag c =
-    search laws
-
-pub returns : goal.returns
-returns c =
-    search laws
+pub returns-else-number_at-tag : goal.returns-else-number_at-tag
+returns-else-number_at-tag c =
+    search field_other

@@ -1,0 +1,21 @@
+-- `filter::Table::scan` meets its contract. Assumes nothing.
+use Prim.Native.Nat.{◌-◌}
+use Rattle.filter.specs.Tables.{pages}
+use Rattle.filter.proofs.Finding.{Scanning}
+use Rattle.filter.proofs.Table.scan.Given as goal
+
+abbrev pub invariant-loop-j : goal.invariant-loop-j
+invariant-loop-j l =
+    Scanning l.self.held (pages l.self) l.page l.j
+
+abbrev pub decreases-loop-j : goal.decreases-loop-j
+decreases-loop-j l =
+    l.self.held - l.j
+
+abbrev pub invariant-loop-j-2 : goal.invariant-loop-j-2
+invariant-loop-j-2 l =
+    Scanning l.self.held (pages l.self) l.page l.j
+
+abbrev pub decreases-loop-j-2 : goal.decreases-loop-j-2
+decreases-loop-j-2 l =
+    l.self.held - l.j

@@ -1,8 +1,0 @@
--- `filter::page_at` meets its contract. Assumes nothing.
-use borrow.Author.Rules.{rules}
-use Rattle.filter.proofs.Noting.{page_read}
-use Rattle.filter.proofs.page_at.Goals as goal
-
-pub returns : goal.returns
-returns c =
-    search (page_read, rules)

@@ -1,8 +1,0 @@
--- `trace::numbers::u64_at` meets its contract. Assumes nothing.
-use borrow.Author.Rules.{rules}
-use Rattle.trace.proofs.Bytes.{halves}
-use Rattle.trace.proofs.numbers.u64_at.Goals as goal
-
-pub returns : goal.returns
-returns c =
-    search (halves 4, rules)

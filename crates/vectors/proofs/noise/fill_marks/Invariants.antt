@@ -1,6 +1,0 @@
--- `vectors::noise::fill_marks` ends where the buffer does. Assumes nothing.
-use Rattle.std.proofs.Common.{◌-◌, length}
-use Rattle.vectors.proofs.noise.fill_marks.Given as goal
-
-abbrev pub decreases-loop-i : goal.decreases-loop-i
-decreases-loop-i l = length l.initial.buf - l.i
