@@ -40,14 +40,14 @@ def items(kind):
     for n, s in src.items():
         head = r"((?:^[ ]*(?://|#\[).*\n)*)^([ ]*)((?:pub )?(?:extern \"C\" )?%s [^;{]*?)\{" % kind
         if kind == "fn":
-            head = r"((?:^[ ]*(?://|#\[).*\n)*)^([ ]*)((?:pub(?:\(\w+\))? )?(?:extern \"C\" )?fn [\s\S]*?)^\2\{"
+            head = r"((?:^[ ]*(?://|#\[).*\n)*)^([ ]*)((?:pub(?:\(\w+\))? )?(?:extern \"C\" )?fn [\s\S]*?)(?:^\2\{| \{$)"
         if kind == "fn":
             for m in re.finditer(head, s, re.M):
                 end = s.find("\n" + m.group(2) + "}", m.end() - 1)
                 yield f"{n}:{s[:m.start(3)].count(chr(10)) + 1}", m.group(1), m.group(3), s[m.end():end]
         else:
             for m in re.finditer(head, s, re.M):
-                end = s.find("}", m.end())
+                end = s.find("\n}", m.end())
                 yield f"{n}:{s[:m.start(3)].count(chr(10)) + 1}", m.group(1), m.group(3), s[m.end():end]
 
 
@@ -84,7 +84,7 @@ for w, c, h, b in fns:
     if re.search(r"\b(mode|kind|form|mark|tag): u(8|64)\b", signature(h)):
         found[1].append((w, "number for a kind: " + name_of(h)))
 for w, c, h, b in structs:
-    if re.search(r"\b(evicted|fetched|found): bool|\b(kind|number|form): u(8|64)\b", b):
+    if re.search(r"\b(evicted|fetched|found): bool|\b(kind|form): u(8|64)\b", b) or name_of(h) == "Refusal":
         found[1].append((w, "flag or number in struct " + name_of(h)))
 for n, s in src.items():
     for m in re.finditer(r"^.*\b(stale|marks?): &?(?:mut )?\[(u8|u64)", s, re.M):

@@ -2,6 +2,7 @@
 use Rattle.std.specs.Prelude.{ℕ, zero, suc, ◌+◌, ◌-◌, ◌*◌, ◌/◌, ◌%◌, ◌≤◌, ◌<◌, ◌≡◌, Bool, true, false, cond, not, List, [], ◌∷◌, map, length, get_or, take, replicate, filter, min, nat_le, ltb, eqb, Option, Some, None}
 use Rattle.std.specs.List.{reduce}
 use Rattle.std.specs.Coded.{Coded-set, coded_ℕ, coded_bool, coded_list, ×_prop, Unit-prop, le_prop}
+use Rattle.limits.proofs.Numbers.{filter_most}
 use Rattle.pages.specs.Pages.{has, place, Distinct}
 use Rattle.trace.specs.Layout.{item_at}
 use Rattle.chains.specs.Chains.{at, newest, Chained, mixed}
@@ -32,7 +33,7 @@ pub record Notes (file last : List ℕ) (held : ℕ) (l : List ℕ) : Type 0 whe
 
 -- How many places there are.
 abbrev pub places : ℕ
-places = 1024
+places = filter_most
 
 -- How many buckets there are.
 abbrev pub buckets : ℕ

@@ -7,6 +7,7 @@ use native.Mathlib.Omega.{arith}
 use lib.ListN.{length, set}
 use lib.Seq.{append_snoc}
 use Rattle.std.specs.Prelude.{Some, None}
+use Rattle.limits.proofs.Numbers.{filter_most}
 use Rattle.pages.specs.Pages.{has, add, place}
 use Rattle.pages.proofs.Added.{add_old, length_new}
 use Rattle.pages.proofs.Table.{has_within, has_beyond, place_most, get_or-place}
@@ -122,10 +123,10 @@ module _ {file₀ file : List ℕ} {n from most held : ℕ} {seen last : List �
 
       -- An item whose page is not in the filter, which has room, may be added, and is passed.
       module _ (o : c < most) where
-        pub looking_add : length last ≡ 1024 → CanAdd file last c k
+        pub looking_add : length last ≡ filter_most → CanAdd file last c k
         looking_add l = record { room = omega (arith, r.can.room); readable = readable; few = omega (arith, r.can.few); new = new }
 
-        pub looking_new : length last ≡ 1024 → {file' last' : List ℕ} {c' base' : ℕ} {heads' next' : List ℕ} → file' ≡ file → last' ≡ set last c k → c' ≡ c + 1
+        pub looking_new : length last ≡ filter_most → {file' last' : List ℕ} {c' base' : ℕ} {heads' next' : List ℕ} → file' ≡ file → last' ≡ set last c k → c' ≡ c + 1
             → Holds file' last' c' base' heads' next' (add (item_at file k).page (pages_in file last c))
             → Looking file₀ file' n from most held seen (pages_in file' last' c') last' (k + 1) c'
         looking_new l d a q b =

@@ -1,6 +1,7 @@
 -- `slim::mend` meets its contract. Assumes nothing.
 use mathlib.Core.Path.{sym, ◌∙◌}
 use native.Mathlib.Omega.{arith}
+use Rattle.filter.specs.Filter.{places}
 use Rattle.filter.proofs.Noting.{notes_long}
 use Rattle.filter.proofs.Bits.{flag_bit, zeros_clear}
 use Rattle.slim.proofs.Mending.{mending_none, mending_stop, mending_clear, mending_all, mending_found, mending_set, mending_leave}
@@ -42,4 +43,4 @@ loop-k-preserved c =
 -- All items are passed.
 pub returns : goal.returns
 returns c =
-    record { mended = mending_all c.loop-k.invariant c.loop-k-test.false; clear = zeros_clear 1024 c.clear.ensures }
+    record { mended = mending_all c.loop-k.invariant c.loop-k-test.false; clear = zeros_clear places c.clear.ensures }

@@ -1,5 +1,6 @@
 -- `slim::write_reduced` meets its contract. Assumes nothing.
 use borrow.Author.Rules.{rules}
+use Rattle.filter.specs.Filter.{places}
 use Rattle.filter.proofs.Bits.{zeros_clear}
 use Rattle.slim.proofs.Reducing.{reducing_long, reducing_room, reducing_header, reducing_slim, reducing_file}
 use Rattle.slim.proofs.Judging.{mode_back}
@@ -14,7 +15,7 @@ header_at-h-requires c =
 pub slim-m-requires : goal.slim-m-requires
 slim-m-requires c =
     reducing_slim _ _ _ _ c.requires c.header_at-h.ensures.value c.header_at-h.ensures.references_bound.1 (λ i. (c.type_inv.file i).fits)
-    c.new-table.ensures.file c.new-table.ensures.held (zeros_clear 1024 c.new-owed.ensures)
+    c.new-table.ensures.file c.new-table.ensures.held (zeros_clear places c.new-owed.ensures)
 
 pub header-requires : goal.header-requires
 header-requires c =

@@ -4,7 +4,7 @@ use mathlib.Core.Path.{◌≡◌, ◌∙◌}
 use native.Mathlib.Omega.{arith}
 use lib.ListN.{get_or, set, length-set}
 use lib.Dec.{eqb}
-use Rattle.filter.specs.Filter.{flag_of, flags_of}
+use Rattle.filter.specs.Filter.{places, flag_of, flags_of}
 use Rattle.filter.proofs.Bits.{flags_most, flags_put, byte_is, put_even, put_odd, flag_most}
 use Rattle.filter.proofs.flags.Flags.put.Goals as goal
 use Rattle.filter.proofs.flags.Flags.put.Goals.{then-j-eq0, else-j-eq0}
@@ -12,7 +12,7 @@ use Rattle.filter.proofs.flags.Flags.put.Goals.{then-j-eq0, else-j-eq0}
 pub overflow_add-self-2 : goal.overflow_add-self-2
 overflow_add-self-2 c =
     let on = c.from.ensures ∙ byte_is c.args.on in
-    let few = flags_most 1024 (flags_of c.args.self.now.bytes) in
+    let few = flags_most places (flags_of c.args.self.now.bytes) in
     let count = c.args.self.now.is_count in
     let bit = flag_most c.args.on in
     record { fits = omega arith }
@@ -22,7 +22,7 @@ pub overflow_sub-self : goal.overflow_sub-self
 overflow_sub-self c =
     let on = c.from.ensures ∙ byte_is c.args.on in
     let was = c.from-2.ensures ∙ byte_is c.is_set-was.result in
-    let put = flags_put 1024 (flags_of c.args.self.now.bytes) c.args.j c.requires (omega (arith, c.args.self.now.is_long)) c.args.on in
+    let put = flags_put places (flags_of c.args.self.now.bytes) c.args.j c.requires (omega (arith, c.args.self.now.is_long)) c.args.on in
     let count = c.args.self.now.is_count in
     let is = c.is_set-was.ensures in
     let was' : c.from-2.result ≡ flag_of (eqb (get_or (flags_of c.args.self.now.bytes) c.args.j 0) 1) = rw is at was in
@@ -32,7 +32,7 @@ pub invariant_of-self : goal.invariant_of-self
 invariant_of-self c =
     let on = c.from.ensures ∙ byte_is c.args.on in
     let was = c.from-2.ensures ∙ byte_is c.is_set-was.result in
-    let put = flags_put 1024 (flags_of c.args.self.now.bytes) c.args.j c.requires (omega (arith, c.args.self.now.is_long)) c.args.on in
+    let put = flags_put places (flags_of c.args.self.now.bytes) c.args.j c.requires (omega (arith, c.args.self.now.is_long)) c.args.on in
     let count = c.args.self.now.is_count in
     let is = c.is_set-was.ensures in
     let was' : c.from-2.result ≡ flag_of (eqb (get_or (flags_of c.args.self.now.bytes) c.args.j 0) 1) = rw is at was in
