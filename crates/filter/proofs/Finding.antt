@@ -7,16 +7,15 @@ use Rattle.std.specs.Prelude.{Option, Some, None, fold, filter, nat_le, unwrap_o
 use Rattle.std.specs.List.{reduce}
 use native.Mathlib.Omega.{arith}
 use lib.ListN.{length, get_or, take}
+use lib.Seq.{length-take-le, get_or-take}
 use lib.Dec.{eqb, ltb}
 use borrow.Author.Tests.{ltb-true, ltb-false, lt-ltb, le-ltb, leb-true, leb-false, eq-eqb, ne_eqb, eqb-false}
 use Rattle.pages.specs.Pages.{has, place}
 use Rattle.pages.proofs.Choice.{split, same, eqb_self}
-use Rattle.pages.proofs.Table.{place_most, has_within, get_or-place}
+use Rattle.pages.proofs.Table.{place_most, has_within, get_or-place, has-get_or}
 use Rattle.trace.specs.Layout.{item_at}
-use Rattle.trace.specs.declared.Item.{Item}
-use Rattle.chains.specs.Chains.{at, counted, newest, bucket_in}
-use Rattle.chains.proofs.Newest.{has-newest, newest_none, newest-place}
-use Rattle.chains.proofs.Chained.{Seeking, seeking_none, seeking_within, seeking_less, seeking_end, seeking_here, seeking_more}
+use Rattle.chains.specs.Chains.{at, counted, bucket_in}
+use Rattle.chains.proofs.Chained.{Seeking, seeking_none, seeking_within, seeking_less}
 use Rattle.filter.specs.Filter.{Notes, buckets, bucket_of, bucket_at, Holds, FirstNoted, first_from, among, found}
 use Rattle.filter.proofs.Noting.{notes_long, notes_page, notes_place, notes_item, notes_told}
 
@@ -144,70 +143,44 @@ module _ {file last : List ℕ} {held base : ℕ} {heads next l : List ℕ} (f :
 
   -- ---- for a page
 
-  module _ {p e : ℕ} (s : Seeking (at l) (bucket_at l) held p (bucket_of p) e) where
-    apart : (j : ℕ) → j < held → at l j ≡ p → bucket_at l j ≡ bucket_of p
-    unfolding bucket_at
-    apart j h q = ap bucket_of q
+  -- A place that has the page,
+  pub found_at : (p : ℕ) {j : ℕ} → j < held → eqb (item_at file (get_or last j 0)).page p ≡ true → Some j ≡ found p l
+  found_at p {j} h t = found_here p l (notes_place f.notes p j h refl (same _ p t)) (rw (notes_long f.notes) h)
 
-    long : length l ≡ held
-    long = notes_long f.notes
+  -- The place of a page that is held is in the page's bucket.
+  pub in_bucket : (p : ℕ) → place p l < held → (bucket_at l (place p l) ≡ bucket_of p) × ((item_at file (get_or last (place p l) 0)).page ≡ p)
+  unfolding bucket_at at
+  in_bucket p w =
+      let q : get_or l (place p l) 0 ≡ p = get_or-place p l (has_within p l (rw (notes_long f.notes) w)) in
+      (ap bucket_of q, sym (notes_page f.notes (place p l) w) ∙ q)
 
-    pub find_end : e ≡ 0 → None ≡ found p l
-    find_end z = found_none p l (newest_none p l (rw long (seeking_end s apart (omega arith))))
+  -- or none in the bucket that has it.
+  passed_all : (p : ℕ) → ((j : ℕ) → j < held → bucket_at l j ≡ bucket_of p → eqb (item_at file (get_or last j 0)).page p ≡ false) → held ≤ place p l
+  passed_all p a =
+      split (ltb (place p l) held)
+      (λ t. let w = ltb-true (place p l) held t in let (b, q) = in_bucket p w in absurd (eqb-false _ p (a (place p l) w b) q))
+      (λ t. ltb-false (place p l) held t)
 
-    module _ {j : ℕ} (a : e ≡ suc j) {q : ℕ} (r : q ≡ (item_at file (get_or last j 0)).page) where
-      within : j < held
-      within = find_held s a
-
-      at_is : at l j ≡ q
-      unfolding at
-      at_is = notes_page f.notes j within ∙ sym r
-
-      pub find_here : q ≡ p → Some j ≡ found p l
-      find_here t =
-          let z : at l (e - 1) ≡ p = rw (a, before) (at_is ∙ t) in
-          let w : suc (e - 1) ≡ suc j = rw (a, before) in
-          found_here p l (newest-place p l f.notes.once j (rw long (seeking_here s apart (omega arith) z ∙ w))) (rw long within)
-
-      pub find_more : (q ≡ p → ⊥) → {d : ℕ} → d ≡ get_or next j 0 → Seeking (at l) (bucket_at l) held p (bucket_of p) d
-      find_more t z = seeking_more s apart (omega arith) (λ y. t (sym at_is ∙ (rw (a, before) at y))) f.chained (rw (a, before) z)
+  pub found_end : (p : ℕ) → ((j : ℕ) → j < held → bucket_at l j ≡ bucket_of p → eqb (item_at file (get_or last j 0)).page p ≡ false) → None ≡ found p l
+  found_end p a = found_none p l (omega (arith, passed_all p a, place_most p l, notes_long f.notes))
 
   -- ---- for an item
 
-  -- It begins at the bucket of the item's page.
-  pub noted_none : (k : ℕ) {x : Item} {e : ℕ} → x ≡ item_at file k → e ≡ get_or heads (bucket_of x.page) 0 - base
-      → Seeking (at last) (bucket_at l) held k (bucket_of (item_at file k).page) e
-  noted_none k q e = find_none (rw q at e)
+  module _ (k : ℕ) where
+    -- A place that notes it,
+    pub noted_at : {j : ℕ} → j < held → get_or last j 0 ≡ k → FirstNoted (take held last) k k
+    noted_at {j} h t =
+        let w : j < length (take held last) = rw (length-take-le held last f.notes.within) h in
+        record { from = omega arith; none = λ i a b. absurd (omega arith); here = λ q. has-get_or k (take held last) j w (get_or-take held last j 0 h ∙ t) }
 
-  module _ {k e : ℕ} (s : Seeking (at last) (bucket_at l) held k (bucket_of (item_at file k).page) e) where
-    shared : (j : ℕ) → j < held → at last j ≡ k → bucket_at l j ≡ bucket_of (item_at file k).page
-    unfolding at bucket_at
-    shared j h q = ap bucket_of (notes_page f.notes j h ∙ rw q)
-
-    listed : has k (take held last) ≡ ltb 0 (newest (at last) k held)
-    listed = has-newest k last held f.notes.within
-
-    -- The chain is passed: item k is not noted.
-    pub noted_end : e ≡ 0 → FirstNoted (take held last) k (k + 1)
-    noted_end z =
-        let n : has k (take held last) ≡ false = listed ∙ rw (seeking_end s shared (omega arith)) (le-ltb 0 0 (omega arith)) in
+    -- or none in the bucket of its page that does.
+    pub noted_end : ((j : ℕ) → j < held → bucket_at l j ≡ bucket_of (item_at file k).page → eqb (get_or last j 0) k ≡ false) → FirstNoted (take held last) k (k + 1)
+    noted_end a =
+        let n : has k (take held last) ≡ false =
+        split (has k (take held last))
+        (λ t. let (w, g) = notes_item f.notes k t in absurd (eqb-false _ k (a _ w (in_bucket _ w).0) g))
+        (λ t. t) in
         record { from = omega arith; none = λ i a b. (let q : k ≡ i = omega arith in rw q at n); here = λ q. absurd (omega arith) }
-
-    module _ {j : ℕ} (a : e ≡ suc j) where
-      -- It is noted.
-      pub noted_here : get_or last j 0 ≡ k → FirstNoted (take held last) k k
-      unfolding at
-      noted_here t =
-          let z : at last (e - 1) ≡ k = rw (a, before) t in
-          record {
-            from = omega arith;
-            none = λ i a b. absurd (omega arith);
-            here = λ q. listed ∙ rw (seeking_here s shared (omega arith) z) (lt-ltb 0 (suc (e - 1)) (omega arith));
-          }
-
-      pub noted_more : (get_or last j 0 ≡ k → ⊥) → {d : ℕ} → d ≡ get_or next j 0 → Seeking (at last) (bucket_at l) held k (bucket_of (item_at file k).page) d
-      unfolding at
-      noted_more t z = seeking_more s shared (omega arith) (λ y. t (rw (a, before) at y)) f.chained (rw (a, before) z)
 
 -- ---- by all places: the first item from k on
 

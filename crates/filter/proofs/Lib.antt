@@ -4,3 +4,4 @@ pub mod Flagged
 pub mod Filling
 pub mod Bits
 pub mod Once
+pub mod Walking

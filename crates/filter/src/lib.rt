@@ -5,7 +5,7 @@ ghost use Rattle.std.specs.Prelude.{◌≡◌, ◌+◌, ◌-◌, ◌*◌, ◌≤
 ghost use Rattle.pages.specs.Pages.{has, add as added, place};
 ghost use Rattle.trace.specs.Layout.{item_at};
 ghost use Rattle.chains.specs.Chains.{counted, heads_with, next_with};
-ghost use Rattle.filter.specs.Filter.{pages_in, places, buckets, bucket_of, Holds, IsFilter, Holds-prop, CanNote, CanAdd, FirstNoted, first_from, found, flags_of, flag_is, found_if, empty_base, empty_heads};
+ghost use Rattle.filter.specs.Filter.{pages_in, places, buckets, bucket_of, Holds, bucket_at, IsFilter, Holds-prop, CanNote, CanAdd, FirstNoted, first_from, found, flags_of, flag_is, found_if, empty_base, empty_heads};
 
 use chains::Chains;
 use flags::Flags;
@@ -22,6 +22,14 @@ const LINKS: usize = 8;
 
 // Of as many items whose chains are long one looks for the next noted item. It is dearer than to look for one item, and spares the search for all up to that one.
 const FAR: usize = 16;
+
+// How a walk along a chain ends: at a place that passes a test, where the chain is too long to follow, or with no such place.
+#[derive(Drop)]
+enum Walked {
+    Found(usize),
+    Long,
+    Nowhere,
+}
 
 // The filter of a file. Its first places, as many as are held, note an item each, and so hold the item's page, which is read from the file.
 #[derive(Drop)]
@@ -101,51 +109,61 @@ impl<'a> Table<'a> {
         None
     }
 
+    // A walk along the chain of a page's bucket, to the last place that passes a test. It goes into each caller: called as a function it made a reduction up to a fifth slower.
+    #[inline(always)]
+    fn walk<T: Fn(usize) -> bool>(&self, page: u64, test: T) -> Walked
+        requires { (j : ℕ) → j < self.now.held → T.pre test j }
+        ensures found { (j : ℕ) → result ≡ Walked.Found j → (j < self.now.held) × T.post test j true }
+        ensures nowhere { result ≡ Walked.Nowhere → (j : ℕ) → j < self.now.held → bucket_at (pages self.now) j ≡ bucket_of page → T.post test j false }
+    {
+        let mut left = LINKS;
+        let mut at = self.newest(page);
+        while let Some(j) = at {
+            if test(j) {
+                return Walked::Found(j);
+            }
+            if left == 0 {
+                return Walked::Long;
+            }
+            left -= 1;
+            at = self.chains.link(j);
+        }
+        Walked::Nowhere
+    }
+
     // The place of a page.
     pub fn find(&self, page: u64) -> Option<usize>
         ensures { result ≡ found page (pages self.now) }
     {
-        let mut left = LINKS;
-        let mut at = self.newest(page);
-        while let Some(here) = at {
-            if self.page_at(here) == page {
-                return Some(here);
-            }
-            if left == 0 {
-                return self.scan(page);
-            }
-            left -= 1;
-            at = self.chains.link(here);
+        match self.walk(page, |here| self.page_at(here) == page) {
+            Walked::Found(here) => Some(here),
+            Walked::Long => self.scan(page),
+            Walked::Nowhere => None,
         }
-        None
     }
 
     // Whether place j has the page, and a flag as is asked. The flag is looked at first: the page has to be read from the file.
-    fn is_flagged<const ON: bool>(&self, flags: &Flags, page: u64, j: usize) -> bool
+    fn is_flagged(&self, flags: &Flags, page: u64, on: bool, j: usize) -> bool
         requires { j < self.now.held }
-        ensures { result ≡ flag_is ON (get_or (flags_of flags.now.bytes) j 0) && eqb (item_at self.now.file.now (get_or self.now.last j 0)).page page }
+        ensures { result ≡ flag_is on (get_or (flags_of flags.now.bytes) j 0) && eqb (item_at self.now.file.now (get_or self.now.last j 0)).page page }
     {
-        flags.is_set(j) == ON && self.page_at(j) == page
+        flags.is_set(j) == on && self.page_at(j) == page
     }
 
     // The place of a page if its flag is as is asked.
     pub fn find_by_flag<const ON: bool>(&self, flags: &Flags, page: u64) -> Option<usize>
         ensures { result ≡ found_if ON (flags_of flags.now.bytes) page (pages self.now) }
     {
-        let mut left = LINKS;
-        let mut at = self.newest(page);
-        while let Some(j) = at {
-            if self.is_flagged::<ON>(flags, page, j) {
-                return Some(j);
-            }
-            if left == 0 {
+        // Tried, and the check made no proof: a closure that names ON itself.
+        let on = ON;
+        match self.walk(page, |j| self.is_flagged(flags, page, on, j)) {
+            Walked::Found(j) => Some(j),
+            Walked::Long => {
                 let j = self.scan(page)?;
-                return (flags.is_set(j) == ON).then_some(j);
+                (flags.is_set(j) == ON).then_some(j)
             }
-            left -= 1;
-            at = self.chains.link(j);
+            Walked::Nowhere => None,
         }
-        None
     }
 
     // Whether a page that the filter holds stands at place c.
@@ -186,22 +204,12 @@ impl<'a> Table<'a> {
         ensures { FirstNoted (take self.now.held self.now.last) k result }
     {
         let x = trace::read::item_at(self.file, k);
-        let mut left = LINKS;
-        let mut at = self.newest(x.page);
-        while let Some(j) = at {
-            if self.last[j] as usize == k {
-                return k;
-            }
-            if left == 0 {
-                if k % FAR == 0 {
-                    return self.next_noted(k).unwrap_or(usize::MAX);
-                }
-                return self.noted_at_page(x.page, k);
-            }
-            left -= 1;
-            at = self.chains.link(j);
+        match self.walk(x.page, |j| self.last[j] as usize == k) {
+            Walked::Found(_) => k,
+            Walked::Long if k % FAR == 0 => self.next_noted(k).unwrap_or(usize::MAX),
+            Walked::Long => self.noted_at_page(x.page, k),
+            Walked::Nowhere => k + 1,
         }
-        k + 1
     }
 
     // Place j notes item k, which has its page.

@@ -98,9 +98,7 @@ fn judge(f: &[u8], g: &[u8], room: usize) -> Result<(), Refusal>
     ensures { result ≡ judged f.now g.now room }
 {
     trace::judge(f)?;
-    if let Err(reason) = trace::judge(g) {
-        return Err(of_second(reason));
-    }
+    trace::judge(g).map_err(of_second)?;
     verdict_of(f, g, room)?;
     Ok(())
 }

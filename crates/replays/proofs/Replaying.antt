@@ -13,7 +13,6 @@ use Rattle.frames.specs.declared.Frame.{Frame}
 use Rattle.frames.proofs.Columns.{frames-pages, frames_marks, pages_over, marks_over, pages-take}
 use Rattle.trace.specs.Layout.{header, items, items_from}
 use Rattle.trace.specs.Refusals.{row}
-use Rattle.trace.specs.declared.Header.{Header}
 use Rattle.trace.specs.declared.Reason.{Reason}
 use Rattle.trace.specs.declared.Refusal.{Refusal}
 use Rattle.std.specs.Prelude.{Ok, Err}

@@ -136,13 +136,11 @@ fn replay_in(
         (frames_of cache.old kept.old) resident (length events.old)) }
     ensures events_after { events.new ≡ events_after file.now k (frames_of cache.old kept.old) resident events.old }
 {
-    match judge(file, k, cache, resident, events.len(), &mut log.chains) {
-        Err(r) => Err(Unreplayed {
-            refusal: r.into(),
-            resident: resident as u64,
-        }),
-        Ok(()) => Ok(replay_sound(file, k, cache, kept, resident, events, log)),
-    }
+    judge(file, k, cache, resident, events.len(), &mut log.chains).map_err(|reason| Unreplayed {
+        refusal: reason.into(),
+        resident: resident as u64,
+    })?;
+    Ok(replay_sound(file, k, cache, kept, resident, events, log))
 }
 
 // Replays a trace file through a cache of k frames that starts as the first `resident` places of two columns, writes four numbers for each fetch, and answers the tally;

@@ -105,6 +105,7 @@ impl Replaying<'_> {
         )
     }
 
+    // By all the buffers that the C interface lends, which are filled before and compared after.
     fn lent(
         &self,
         file: &[u8],

@@ -3,7 +3,7 @@ ghost use Rattle.std.specs.Prelude.{◌≤◌};
 
 use trace::Header;
 
-// The first `len` of the bytes; the others are zero, except where one was put there.
+// The first `len` of the bytes; the others are zero, except where one was put there. A count stands beside them because there is no heap.
 #[derive(Clone, Copy)]
 pub struct Bytes<const N: usize> {
     bytes: [u8; N],
@@ -15,7 +15,7 @@ pub struct Bytes<const N: usize> {
 pub type File = Bytes<512>;
 
 pub fn low(x: u64) -> u8 {
-    (x % 256) as u8
+    x.to_le_bytes()[0]
 }
 
 impl<const N: usize> Bytes<N> {
@@ -71,12 +71,12 @@ impl<const N: usize> Bytes<N> {
     }
 }
 
-// The tag of an item that is a read, and of one that is a write.
+// The tag of an item that is a read, and of one that is a write: numbers of the layout, as are those below, any of which a line may ask for.
 fn tag_of(mark: u64) -> u8 {
     if mark == 0 { 5 } else { 6 }
 }
 
-// The items are pages and times in turn. Where there are fewer marks than items, those without one are reads. The header need not fit the
+// The items are pages and times in turn, as a line has them. Where there are fewer marks than items, those without one are reads. The header need not fit the
 // items: a file may be wrong.
 pub fn file_of(h: Header, items: &[u64], marks: &[u64]) -> File {
     let mut file = File::new();
