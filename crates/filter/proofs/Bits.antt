@@ -7,8 +7,9 @@ use mathlib.Core.List.{List, [], ◌∷◌}
 use native.Mathlib.Omega.{arith}
 use lib.ListN.{length, get_or, set, replicate}
 use lib.Seq.{get_or-set_same, get_or-set_other}
-use lib.Dec.{eqb}
-use borrow.Author.Tests.{eqb-false}
+use native.Mathlib.Numerals.{add-one}
+use lib.Dec.{eqb, ltb}
+use borrow.Author.Tests.{eqb-false, ltb-true, ltb-false}
 use mir.Val.{bool_byte}
 use Rattle.pages.proofs.Choice.{split, same}
 use Rattle.filter.specs.Filter.{flag_of, flags_of, flags_set, Clear}
@@ -66,6 +67,9 @@ put_upper (b ∷ bs) (suc i) v h = rw (two_more i) (ap (λ (l : List ℕ). b % 2
 -- ---- as the code has them
 
 module _ (bs : List ℕ) (j : ℕ) where
+  pub flag_byte : j < length (flags_of bs) → j / 2 < length bs
+  flag_byte h = omega (arith, flags_length bs)
+
   pub flag_even : j % 2 ≡ 0 → get_or bs (j / 2) 0 % 2 ≡ get_or (flags_of bs) j 0
   flag_even e = let z : 2 * (j / 2) ≡ j = omega arith in rw z at (sym (flag_lower bs (j / 2)))
 
@@ -94,6 +98,10 @@ unfolding flags_of
 flags_zero zero = refl
 flags_zero (suc n) = rw (two_more n) (ap (λ (l : List ℕ). 0 ∷ 0 ∷ l) (flags_zero n))
 
+-- So have bytes that are filled with 0.
+pub flags_filled : (bs : List ℕ) {bs' : List ℕ} → bs' ≡ replicate (length bs) 0 → flags_of bs' ≡ replicate (length (flags_of bs)) 0
+flags_filled bs e = rw (e, flags_zero (length bs), flags_length bs)
+
 pub zeros_clear : {flags : List ℕ} (n : ℕ) → flags ≡ replicate n 0 → Clear 0 flags
 zeros_clear n e j o = rw e (zeros n j)
   where
@@ -101,6 +109,18 @@ zeros_clear n e j o = rw e (zeros n j)
     zeros zero i = refl
     zeros (suc n) zero = refl
     zeros (suc n) (suc i) = zeros n i
+
+-- Bytes that are all 0, however many, have no flag set.
+pub flags_clear : (bs : List ℕ) → ((i : ℕ) → get_or bs i 0 ≡ 0) → Clear 0 (flags_of bs)
+unfolding flags_of
+flags_clear [] z j o = refl
+flags_clear (b ∷ bs) z zero o = let e : b ≡ 0 = z 0 in rw e
+flags_clear (b ∷ bs) z (suc zero) o = let e : b ≡ 0 = z 0 in rw e
+flags_clear (b ∷ bs) z (suc (suc j)) o = flags_clear bs (λ i. z (suc i)) j (omega arith)
+
+-- Two rows in which no flag is set have the same flags.
+pub clear_alike : (a b : List ℕ) → Clear 0 (flags_of a) → Clear 0 (flags_of b) → (j : ℕ) → get_or (flags_of a) j 0 ≡ get_or (flags_of b) j 0
+clear_alike a b p q j = p j (omega arith) ∙ sym (q j (omega arith))
 
 -- ---- how many are set
 
@@ -132,6 +152,20 @@ flags_beyond zero flags j v o = refl
 flags_beyond (suc c) flags j v o =
     let d : c ≢ j = λ z. omega arith in
     rw (get_or-set_other flags j c v 0 d, flags_beyond c flags j v (omega arith))
+
+-- No more are set than the places before those that are clear.
+pub flags_few : (n c : ℕ) (flags : List ℕ) → Clear c flags → flags_set n flags ≤ c
+unfolding flags_set
+flags_few zero c flags z = omega arith
+flags_few (suc n) c flags z =
+    split (ltb n c)
+    (λ t. omega (arith, ltb-true n c t, flags_most (suc n) flags))
+    (λ t. rw (z n (ltb-false n c t)) (flags_few n c flags z))
+
+-- A new place's flag, cleared, adds nothing.
+pub flags_new : (c : ℕ) (flags : List ℕ) → c < length flags → flags_set (c + 1) (set flags c 0) ≡ flags_set c flags
+unfolding flags_set
+flags_new c flags l = rw (add-one, get_or-set_same flags c 0 0 l, flags_beyond c flags c 0 (omega arith))
 
 -- One is put.
 pub flags_put : (c : ℕ) (flags : List ℕ) (j : ℕ) → j < c → j < length flags → (on : Bool)

@@ -12,7 +12,7 @@ use Rattle.pages.specs.Pages.{has, add}
 use Rattle.pages.proofs.Added.{add_new}
 use Rattle.trace.specs.Layout.{item_at}
 use Rattle.trace.specs.declared.Item.{Item}
-use Rattle.chains.specs.Chains.{at, heads_with, next_with}
+use Rattle.chains.specs.Chains.{at, CanPush, heads_with, next_with}
 use Rattle.chains.proofs.Chained.{Low, chained_none, chained_low, chained_more, low_zeros}
 use Rattle.filter.specs.Filter.{pages_of, pages_in, places, buckets, bucket_of, bucket_at, Holds, IsFilter, CanNote, CanAdd, fits_above, empty_base, empty_heads}
 use Rattle.filter.proofs.Noting.{notes_long, notes_again, notes_more}
@@ -49,29 +49,21 @@ module _ {file last : List ℕ} {held base : ℕ} {heads next l : List ℕ} (f :
   holds_low = chained_low f.chained
 
   -- The filter is emptied above what the heads say,
-  pub emptied_above : {n : ℕ} → n ≡ length last → base + held + n ≤ 65535 → IsFilter file last 0 (base + held) heads next
-  unfolding pages_of
-  emptied_above e s = holds_none file last holds_low f.heads_long f.next_long (rw (← e) s)
-
-  pub above_is : {n : ℕ} → n ≡ length last → base + held + n ≤ 65535 → (base + held ≡ empty_base base held (length last)) × (heads ≡ empty_heads base held (length last) heads)
+  pub emptied_above : base + held + length last ≤ 65535
+      → (base + held ≡ empty_base base held (length last)) × ((heads ≡ empty_heads base held (length last) heads) × Holds file last 0 (base + held) heads next [])
   unfolding fits_above empty_base empty_heads
-  above_is q s =
+  emptied_above s =
       let t = lt-ltb (base + held + length last) 65536 (omega arith) in
-      (rw t, rw t)
+      (rw t, (rw t, holds_none file last holds_low f.heads_long f.next_long s))
 
   -- or with heads that are cleared.
-  pub emptied_clear : {heads' next' : List ℕ} → heads' ≡ replicate (length heads) 0 → next' ≡ next → IsFilter file last 0 0 heads' next'
-  unfolding pages_of
-  emptied_clear e n =
-      let w : buckets ≤ length {A = ℕ} (replicate (length heads) 0) = rw length-replicate f.heads_long in
-      rw (e, n) (holds_none file last (low_zeros (length heads)) w f.next_long (omega (arith, f.small)))
-
-  pub clear_is : {n : ℕ} → n ≡ length last → 65535 < base + held + n → {heads' : List ℕ} → heads' ≡ replicate (length heads) 0
-      → (0 ≡ empty_base base held (length last)) × (heads' ≡ empty_heads base held (length last) heads)
+  pub emptied_clear : 65535 < base + held + length last → {heads' : List ℕ} → heads' ≡ replicate (length heads) 0
+      → (0 ≡ empty_base base held (length last)) × ((heads' ≡ empty_heads base held (length last) heads) × Holds file last 0 0 heads' next [])
   unfolding fits_above empty_base empty_heads
-  clear_is q s e =
+  emptied_clear s e =
       let t = le-ltb (base + held + length last) 65536 (omega arith) in
-      (rw t, rw t e)
+      let w : buckets ≤ length {A = ℕ} (replicate (length heads) 0) = rw length-replicate f.heads_long in
+      (rw t, (rw t e, rw e (holds_none file last (low_zeros (length heads)) w f.next_long (omega (arith, f.small)))))
 
   module _ (k : ℕ) (readable : 23 + 19 * (k + 1) ≤ length file) where
     -- An item of a page that is held is noted in place of the one before it.
@@ -114,6 +106,13 @@ note_holds f {j} {k} c = holds_in (holds_again f k c.readable j c.within c.page)
 
 module _ {file last : List ℕ} {held base : ℕ} {heads next : List ℕ} (f : IsFilter file last held base heads next) {k : ℕ} (c : CanAdd file last held k)
     {x : Item} (e : x ≡ item_at file k) {v : ℕ} (q : v ≡ bucket_of x.page) where
-  pub add_holds : {heads' next' : List ℕ} → heads' ≡ heads_with base held v heads → next' ≡ next_with base held v heads next
-      → Holds file (set last held k) (held + 1) base heads' next' (add (item_at file k).page (pages_in file last held))
-  add_holds h n = rw (h, n, q, e) (holds_more f k c.readable c.room c.new)
+  -- The place can be pushed.
+  pub add_push : CanPush base held v heads next
+  add_push =
+      record { bucket = rw q (omega (arith, bucket_below x.page, f.heads_long)); room = omega (arith, c.room, f.next_long); small = omega (arith, c.room, f.small) }
+
+  pub add_holds : {last' heads' next' : List ℕ} → last' ≡ set last held k → heads' ≡ heads_with base held v heads → next' ≡ next_with base held v heads next
+      → (last' ≡ set last held k) × ((heads' ≡ heads_with base held (bucket_of (item_at file k).page) heads)
+      × ((next' ≡ next_with base held (bucket_of (item_at file k).page) heads next)
+      × Holds file last' (held + 1) base heads' next' (add (item_at file k).page (pages_in file last held))))
+  add_holds a h n = (a, (rw (q, e) at h, (rw (q, e) at n, rw (a, h, n, q, e) (holds_more f k c.readable c.room c.new))))

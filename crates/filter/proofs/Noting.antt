@@ -14,7 +14,8 @@ use Rattle.pages.proofs.Choice.{split, same}
 use Rattle.pages.proofs.Added.{add_new, distinct_add}
 use Rattle.pages.proofs.Table.{place_within, get_or-place, has-get_or, place_alone}
 use Rattle.trace.specs.Layout.{item_at}
-use Rattle.filter.specs.Filter.{pages_of, Notes}
+use Rattle.trace.specs.declared.Item.{Item}
+use Rattle.filter.specs.Filter.{pages_of, Stands, Notes}
 
 module _ (file : List ℕ) where
   get_or-pages : (items : List ℕ) (j : ℕ) → j < length items → get_or (pages_of file items) j 0 ≡ (item_at file (get_or items j 0)).page
@@ -23,11 +24,19 @@ module _ (file : List ℕ) where
   get_or-pages (i ∷ items) zero h = refl
   get_or-pages (i ∷ items) (suc j) h = get_or-pages items j (omega arith)
 
+  -- An item that is read at a place has the page of the item noted there.
+  pub page_read : (last : List ℕ) (j : ℕ) {i : ℕ} {x : Item} → i ≡ get_or last j 0 → x ≡ item_at file i → x.page ≡ (item_at file (get_or last j 0)).page
+  page_read last j q e = rw (e, q)
+
 module _ {file last : List ℕ} {held : ℕ} {l : List ℕ} (n : Notes file last held l) where
   -- There are as many pages as places.
   pub notes_long : length l ≡ held
   unfolding pages_of
   notes_long = rw (← n.pages_are, length-map) (length-take-le held last n.within)
+
+  -- Its place can be read.
+  pub notes_stands : (j : ℕ) → j < held → Stands file last j
+  notes_stands j h = record { within = omega (arith, n.within); readable = n.readable j h }
 
   -- The page at a place is that of the item noted there.
   pub notes_page : (j : ℕ) → j < held → get_or l j 0 ≡ (item_at file (get_or last j 0)).page

@@ -1,3 +1,4 @@
 pub mod Filter
 pub mod Tables
+pub mod Lent
 pub mod Examples

@@ -5,15 +5,19 @@ ghost use Rattle.std.specs.Prelude.{◌≡◌};
 ghost use Rattle.limits.specs.Sizes.{within};
 
 // A filter, by its size.
+#[derive(Clone, Copy)]
 pub struct Filter;
 
 // A cache, by its size.
+#[derive(Clone, Copy)]
 pub struct Cache;
 
 // The items of a file, by their count.
+#[derive(Clone, Copy)]
 pub struct Items;
 
 // What a program takes, settings included, by its bytes.
+#[derive(Clone, Copy)]
 pub struct Input;
 
 impl Filter {

@@ -16,11 +16,16 @@ use Rattle.frames.specs.Frames.{pages_of}
 use Rattle.frames.specs.declared.Frame.{Frame}
 use Rattle.trace.specs.declared.Item.{Item}
 use Rattle.lru_cache.specs.Lru.{Event, fetched, hit, fetch, step, ◌then◌, replay}
-use Rattle.lru_cache.specs.Tally.{one_of, nothing, is_fetch, is_eviction, tallied, tally, per_million}
+use Rattle.lru_cache.specs.Tally.{one_of, nothing, counted_of, is_fetch, is_eviction, tallied, tally, per_million}
 use Rattle.lru_cache.specs.Promises.{evictions, TallyCounts, PerMillionIs}
 use Rattle.lru_cache.specs.declared.Tally.{Tally}
 
 -- ---- an item
+
+-- The counts that the code adds up are the tally with one item more.
+pub counted_is : (t : Tally) (f e : Bool) {a b : ℕ} → a ≡ one_of f → b ≡ one_of e
+    → record { items = t.items + 1; fetches = t.fetches + a; evictions = t.evictions + b } ≡ counted_of t f e
+counted_is t f e p q = rw (p, q)
 
 -- A test counts at most once.
 pub one_most : (b : Bool) → one_of b ≤ 1

@@ -10,16 +10,16 @@ pub per_million_once : OneResult per_million.ps per_million.r per_million_post
 per_million_once κs args x y s t p q = p ∙ sym q
 
 pub run_once : OneResult run.ps run.r run_post
-run_once κs args x y s t p q = p.tally_is ∙ sym q.tally_is
+run_once κs args x y s t p q = p.0.tally_is ∙ sym q.0.tally_is
 
 pub run_cache_once : OneBuffer run.ps run.r run_post (λ κs s. s.1.1.0.now)
-run_cache_once κs args x y s t p q = p.cache_is ∙ sym q.cache_is
+run_cache_once κs args x y s t p q = p.0.cache_is ∙ sym q.0.cache_is
 
 pub run_marks_once : OneBuffer run.ps run.r run_post (λ κs s. s.1.1.1.0.now)
-run_marks_once κs args x y s t p q = p.kept_is ∙ sym q.kept_is
+run_marks_once κs args x y s t p q = p.0.kept_is ∙ sym q.0.kept_is
 
 pub run_events_once : OneBuffer run.ps run.r run_post (λ κs s. s.1.1.1.1.1.0.now)
-run_events_once κs args x y s t p q = p.events_are ∙ sym q.events_are
+run_events_once κs args x y s t p q = p.0.events_are ∙ sym q.0.events_are
 
 pub run_resident_once : OneBuffer run.ps run.r run_post (λ κs s. s.1.1.1.1.1.1.0.now.queue.resident)
-run_resident_once κs args x y s t p q = p.resident_is ∙ sym q.resident_is
+run_resident_once κs args x y s t p q = p.0.resident_is ∙ sym q.0.resident_is

@@ -19,7 +19,7 @@ use Rattle.std.specs.Prelude.{Option, Some, None, is_some}
 use Rattle.chains.specs.Chains.{counted}
 use Rattle.recency.specs.Linked.{last_from}
 use Rattle.recency.specs.Held.{frames, Holds, CanUse}
-use Rattle.recency.specs.declared.Log.{Log}
+use Rattle.recency.specs.State.{State}
 use Rattle.recency.proofs.Appending.{has-frames, length-frames, gone_held, found_low, last_later}
 use Rattle.trace.specs.declared.Item.{Item}
 use Rattle.lru_cache.specs.Lru.{step, hit, fetch, fetched, words, word, cost}
@@ -45,7 +45,7 @@ module _ (K : ℕ) (x : Item) (s : List Frame) where
     step_full f = rw (h, le-ltb (length s) K f)
 
 -- How many pages the log holds.
-holds_count : {s : List Frame} {l : Log} → Holds s l → length s ≡ l.queue.resident
+holds_count : {s : List Frame} {l : State} → Holds s l → length s ≡ l.queue.resident
 holds_count h = ap length (sym h.frames_are) ∙ length-frames h.held
 
 -- All but the last of a list that has one.
@@ -66,7 +66,7 @@ by_found (Some j) n s = s j refl
 
 -- ---- each case in the log, from what the code knows there
 
-module _ {K : ℕ} {l : Log} (ready : Ready K l) (x : Item) {o : Option ℕ} (k : counted o ≡ last_from l.queue.low l.pages l.queue.now x.page) {l' : Log} {g : Option Frame} (made : Made K o l l' g) where
+module _ {K : ℕ} {l : State} (ready : Ready K l) (x : Item) {o : Option ℕ} (k : counted o ≡ last_from l.queue.low l.pages l.queue.now x.page) {l' : State} {g : Option Frame} (made : Made K o l l' g) where
   abbrev now : List Frame
   now = frames l
 
@@ -91,7 +91,7 @@ module _ {K : ℕ} {l : Log} (ready : Ready K l) (x : Item) {o : Option ℕ} (k 
 
   module _ (w : Went l l' g) (h : K ≤ l.queue.resident) where
     -- The log without the last one.
-    abbrev without : Log
+    abbrev without : State
     without = record l { queue = l'.queue }
 
     left : length (frames without) + 1 ≡ l.queue.resident
@@ -116,10 +116,10 @@ module _ {K : ℕ} {l : Log} (ready : Ready K l) (x : Item) {o : Option ℕ} (k 
       (λ r.
       let h = ltb-false l.queue.resident K r in
       let w = made.full e h in
-      subst (λ (m : Log). CanUse m x.page o) (sym w.rest) (use_without w h e)))
+      subst (λ (m : State). CanUse m x.page o) (sym w.rest) (use_without w h e)))
       (λ j e. as_was (made.found j e).same)
 
-  module _ {l'' : Log} (u : Holds (framed x.page (dirty x.page (frames l') || x.written) ∷ taken x.page (frames l')) l'') where
+  module _ {l'' : State} (u : Holds (framed x.page (dirty x.page (frames l') || x.written) ∷ taken x.page (frames l')) l'') where
     -- It was found.
     pub stepped_hit : is_some o ≡ true → Stepped (step K now x) K None l''
     unfolding words is_fetch is_eviction

@@ -11,7 +11,7 @@ use lib.Seq.{sets}
 use Rattle.pages.specs.Rows.{over}
 use Rattle.pages.proofs.Rows.{over_more}
 use Rattle.recency.specs.Held.{frames}
-use Rattle.recency.specs.declared.Log.{Log}
+use Rattle.recency.specs.State.{State, AsLong}
 use Rattle.trace.specs.Layout.{item_at, items_of, items_from}
 use Rattle.trace.specs.declared.Item.{Item}
 use Rattle.trace.proofs.Items.{first_more}
@@ -27,7 +27,7 @@ use Rattle.lru_cache.proofs.Words.{words_append, length-words}
 -- ---- one outcome after another
 
 -- An outcome stands in the events, and an item's outcome after it: so do both, one after the other.
-turned_then : {o p : Outcome} {c : Tally} {K : ℕ} {t : Tally} {e : Option Fetch} {events : List ℕ} {log : Log} {events' : List ℕ} {log' : Log} {events'' : List ℕ}
+turned_then : {o p : Outcome} {c : Tally} {K : ℕ} {t : Tally} {e : Option Fetch} {events : List ℕ} {log : State} {events' : List ℕ} {log' : State} {events'' : List ℕ}
     → Turned o c K events t log events' → Stepped p K e log' → events'' ≡ sets events' (4 * t.fetches) (told e)
     → t.fetches ≡ length o.events → 4 * (length o.events + length p.events) ≤ length events
     → Turned (o then p) (tallied c p) K events (counted_of t (is_some e) (evicts e)) log' events''
@@ -49,7 +49,7 @@ turned_then {o} {p} {t = t} {events = events} d s y f l =
 -- ---- the loop
 
 -- A replay of n items of the file f, from the cache that the log held, has done i: the tally is t.
-pub record Running (f : List ℕ) (n K : ℕ) (log₀ : Log) (events₀ : List ℕ) (log : Log) (events : List ℕ) (t : Tally) (i : ℕ) : Type 0 where
+pub record Running (f : List ℕ) (n K : ℕ) (log₀ : State) (events₀ : List ℕ) (log : State) (events : List ℕ) (t : Tally) (i : ℕ) : Type 0 where
   pub done : Plays f i K (frames log₀) events₀ t log events
   pub items_are : t.items ≡ i
   pub fetched : t.fetches ≤ i
@@ -57,7 +57,7 @@ pub record Running (f : List ℕ) (n K : ℕ) (log₀ : Log) (events₀ : List �
   pub events_long : length events ≡ length events₀
 
 -- No item is done yet.
-pub running_none : (f : List ℕ) {n K : ℕ} {log : Log} {events : List ℕ} → CanPlay n K log events → Running f n K log events log events nothing 0
+pub running_none : (f : List ℕ) {n K : ℕ} {log : State} {events : List ℕ} → CanPlay n K log events → Running f n K log events log events nothing 0
 unfolding replay tally items_from items_of words over
 running_none f can =
     record {
@@ -73,11 +73,11 @@ running_none f can =
       events_long = refl;
     }
 
-module _ {f : List ℕ} {n K : ℕ} {log₀ : Log} {events₀ : List ℕ} {log : Log} {events : List ℕ} {t : Tally} {i : ℕ}
+module _ {f : List ℕ} {n K : ℕ} {log₀ : State} {events₀ : List ℕ} {log : State} {events : List ℕ} {t : Tally} {i : ℕ}
     (r : Running f n K log₀ events₀ log events t i) (can : CanPlay n K log₀ events₀) where
   -- An item can be taken.
-  pub running_step : i < n → Ready K log
-  running_step h = record { held = r.done.holds.held; some = can.ready.some; small = can.ready.small; within = r.done.within }
+  pub running_step : i < n → AsLong log₀ log → Ready K log
+  running_step h long = record { held = r.done.holds.held; some = can.ready.some; small = omega (arith, long.pages, can.ready.small); within = r.done.within }
 
   -- There is room for its numbers.
   pub running_put : i < n → 4 * t.fetches + 4 ≤ length events
@@ -96,7 +96,7 @@ module _ {f : List ℕ} {n K : ℕ} {log₀ : Log} {events₀ : List ℕ} {log :
       }
 
   -- One item more is done.
-  pub running_more : {x : Item} {e : Option Fetch} {t' : Tally} {log' : Log} {events' : List ℕ} → i < n → x ≡ item_at f i
+  pub running_more : {x : Item} {e : Option Fetch} {t' : Tally} {log' : State} {events' : List ℕ} → i < n → x ≡ item_at f i
       → Stepped (step K (frames log) x) K e log' → events' ≡ sets events (4 * t.fetches) (told e) → t' ≡ counted_of t (is_some e) (evicts e)
       → length events' ≡ length events → Running f n K log₀ events₀ log' events' t' (i + 1)
   running_more {x} {e} {t'} {log'} {events'} h y g v w z =

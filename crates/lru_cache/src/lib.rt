@@ -5,11 +5,12 @@ ghost use Rattle.std.specs.Prelude.{◌≡◌, [], ◌∷◌, ◌+◌, ◌*◌, 
 ghost use Rattle.std.proofs.lemmas.List.Edits.{sets};
 ghost use Rattle.limits.proofs.Numbers.{items_most};
 ghost use Rattle.frames.specs.Frames.{frames_of};
+ghost use Rattle.recency.specs.State.{state, SameRows};
 ghost use Rattle.recency.specs.Held.{frames};
 ghost use Rattle.trace.specs.Layout.{items_from};
 ghost use Rattle.lru_cache.specs.Lru.{step as stepped, replay as lru};
 ghost use Rattle.lru_cache.specs.Tally.{one_of, nothing, counted_of, HasRoom, tally as tally_of, per_million};
-ghost use Rattle.lru_cache.specs.Passes.{CanMake, Made, cost_of, told, evicts, Ready, Stepped, CanPlay, Plays, CanRun, Ran};
+ghost use Rattle.lru_cache.specs.Passes.{CanMake, Made, cost_of, told, evicts, Ready, Stepped, CanPlay, Plays, CanRun, Rows, Ran};
 
 use frames::Frame;
 use recency::Log;
@@ -87,8 +88,9 @@ fn put(events: &mut [u64], at: usize, fetch: Option<Fetch>)
 
 // Room for a page whose last place is told: a page that comes in where there is none makes the last one go.
 fn make_room(log: &mut Log, k: usize, last: Option<usize>) -> Option<Frame>
-    requires { CanMake k log.old }
-    ensures { Made k last log.old log.new result }
+    requires { CanMake k (state log.old) }
+    ensures made { Made k last (state log.old) (state log.new) result }
+    ensures rows { SameRows log.old log.new }
 {
     if last.is_some() || log.queue.resident < k {
         return None;
@@ -98,8 +100,9 @@ fn make_room(log: &mut Log, k: usize, last: Option<usize>) -> Option<Frame>
 
 // One item, which is a fetch where its page is not found.
 fn step(x: Item, k: usize, log: &mut Log) -> Option<Fetch>
-    requires { Ready k log.old }
-    ensures { Stepped (stepped k (frames log.old) x) k result log.new }
+    requires { Ready k (state log.old) }
+    ensures outcome { Stepped (stepped k (frames (state log.old)) x) k result (state log.new) }
+    ensures rows { SameRows log.old log.new }
 {
     let last = log.find(x.page);
     let gone = make_room(log, k, last);
@@ -116,8 +119,9 @@ fn step(x: Item, k: usize, log: &mut Log) -> Option<Fetch>
 
 // The items of a file, through the cache that the log holds.
 fn play(items: Items, k: usize, log: &mut Log, events: &mut [u64]) -> Tally
-    requires { CanPlay items.count k log.old events.old }
-    ensures { Plays items.entry.file.now items.entry.count k (frames log.old) events.old result log.new events.new }
+    requires { CanPlay items.count k (state log.old) events.old }
+    ensures plays { Plays items.entry.file.now items.entry.count k (frames (state log.old)) events.old result (state log.new) events.new }
+    ensures rows { SameRows log.old log.new }
 {
     let mut t = Tally {
         items: 0,
@@ -144,10 +148,12 @@ pub fn run(
     events: &mut [u64],
     log: &mut Log,
 ) -> Tally
-    requires { CanRun items.count k resident cache.old kept.old events.old }
-    ensures { Ran (lru k (take resident (frames_of cache.old kept.old)) (items_from items.entry.file.now 0 items.entry.count))
+    requires can_run { CanRun items.count k resident cache.old kept.old events.old }
+    requires rows { Rows (state log.old) }
+    ensures ran { Ran (lru k (take resident (frames_of cache.old kept.old)) (items_from items.entry.file.now 0 items.entry.count))
         (tally_of k (take resident (frames_of cache.old kept.old)) nothing (items_from items.entry.file.now 0 items.entry.count))
-        cache.old kept.old events.old result log.new cache.new kept.new events.new }
+        cache.old kept.old events.old result (state log.new) cache.new kept.new events.new }
+    ensures rows { SameRows log.old log.new }
 {
     log.load(&cache[..resident], &kept[..resident]);
     let t = play(items, k, log, events);

@@ -14,19 +14,18 @@ use Rattle.recency.specs.declared.Mark.{Mark}
 use Rattle.recency.specs.declared.Mark.TheVariants.{Clean}
 use Rattle.recency.specs.Held.{is_stale, is_written, residents, wrote, frames, CanEvict, Gone}
 use Rattle.recency.specs.declared.Queue.{Queue}
-use Rattle.recency.specs.declared.Log.{Log}
+use Rattle.recency.specs.State.{State}
 use Rattle.recency.proofs.Order.{order_live, order_stale, has-order}
 use Rattle.recency.proofs.Counting.{part_next, part_none, place_live, place_stale}
 use Rattle.recency.proofs.Places.{wrote_live, wrote_same}
 
--- A search for it from low on has come to r. One page fewer is counted.
-pub record Aging (l now : Log) (r : ℕ) : Type 0 where
-  pub same : now ≡ record l { queue = record l.queue { resident = l.queue.resident - 1 } }
+-- A search for it from low on has come to r.
+pub record Aging (l : State) (r : ℕ) : Type 0 where
   pub from : l.queue.low ≤ r
   pub within : r ≤ l.queue.now
   pub rest : order (drop r (take l.queue.now l.pages)) ≡ residents l
 
-module _ {l : Log} (can : CanEvict l) where
+module _ {l : State} (can : CanEvict l) where
   abbrev log : List ℕ
   log = l.pages
 
@@ -36,21 +35,26 @@ module _ {l : Log} (can : CanEvict l) where
   abbrev q : Queue
   q = l.queue
 
-  pub aging_none : Aging l (record l { queue = record q { resident = q.resident - 1 } }) q.low
+  pub aging_none : Aging l q.low
   unfolding residents
-  aging_none = record { same = refl; from = omega arith; within = can.logged.behind; rest = refl }
+  aging_none = record { from = omega arith; within = can.logged.behind; rest = refl }
 
-  module _ {now : Log} {r : ℕ} (a : Aging l now r) where
+  module _ {r : ℕ} (a : Aging l r) where
     module _ (h : r < q.now) where
+      pub aging_reads : r < length log
+      aging_reads = omega (arith, can.logged.within)
+
+      pub aging_stales : r < length stale
+      aging_stales = omega (arith, aging_reads, can.logged.stale_long)
+
       abbrev behind : List ℕ
       behind = drop (r + 1) (take q.now log)
 
-      pub aging_more : is_stale (get_or now.marks r Clean) ≡ true → Aging l now (r + 1)
+      pub aging_more : is_stale (get_or stale r Clean) ≡ true → Aging l (r + 1)
       aging_more n = record {
-        same = a.same;
         from = omega (arith, a.from);
         within = omega arith;
-        rest = sym (order_stale (get_or log r 0) behind (place_stale can.logged.marked a.from h (ap (λ (k : Log). is_stale (get_or k.marks r Clean)) (sym a.same) ∙ n))) ∙ rw (part_next log q.now can.logged.within r h) at a.rest;
+        rest = sym (order_stale (get_or log r 0) behind (place_stale can.logged.marked a.from h n)) ∙ rw (part_next log q.now can.logged.within r h) at a.rest;
       }
 
       -- It is the last of the resident pages.
@@ -58,7 +62,7 @@ module _ {l : Log} (can : CanEvict l) where
       here e = sym a.rest ∙ rw (part_next log q.now can.logged.within r h) (order_live (get_or log r 0) behind (place_live can.logged.marked a.from h e))
 
       module _ (e : is_stale (get_or stale r Clean) ≡ false) where
-        abbrev later : Log
+        abbrev later : State
         later = record l { queue = record { resident = q.resident - 1; low = r + 1; now = q.now } }
 
         pages_are : residents later ≡ drop_last (residents l)
@@ -82,14 +86,15 @@ module _ {l : Log} (can : CanEvict l) where
             ∙ ap (λ (b : Bool). some (framed (get_or log r 0) b))
             (wrote_live log q.low q.now can.logged.within stale r a.from h (place_live can.logged.marked a.from h e))
 
-        gone : Gone l later.queue (framed (get_or log r 0) (is_written (get_or stale r Clean)))
+        pub aging_here : Gone l later.queue (framed (get_or log r 0) (is_written (get_or stale r Clean)))
         unfolding residents
-        gone =
+        aging_here =
             let c : length (order behind) + 1 ≡ q.resident = sym (ap length (here e) ∙ length-append (order behind) (get_or log r 0 ∷ [])) ∙ can.logged.count in
             record {
               logged = record {
                 behind = omega arith;
                 within = can.logged.within;
+                stale_long = can.logged.stale_long;
                 marked = record { are = λ j f g. can.logged.marked.are j (omega (arith, a.from)) g };
                 count = omega arith;
               };
@@ -98,16 +103,6 @@ module _ {l : Log} (can : CanEvict l) where
               frames_are = frames_are;
               last_is = last_is;
             }
-
-      module _ (e : is_stale (get_or now.marks r Clean) ≡ false) where
-        live : is_stale (get_or stale r Clean) ≡ false
-        live = ap (λ (k : Log). is_stale (get_or k.marks r Clean)) (sym a.same) ∙ e
-
-        pub aging_here : Gone l (record { resident = now.queue.resident; low = r + 1; now = now.queue.now }) (framed (get_or now.pages r 0) (is_written (get_or now.marks r Clean)))
-        aging_here = rw a.same (gone live)
-
-    pub aging_rest : {q' : Queue} → record now { queue = q' } ≡ record l { queue = q' }
-    aging_rest {q'} = ap (λ (k : Log). record k { queue = q' }) a.same
 
     -- It is found before the end.
     pub aging_never : q.now ≤ r → ⊥

@@ -18,15 +18,14 @@ use Rattle.frames.specs.declared.Frame.{Frame}
 use Rattle.frames.proofs.By.{pages_by, by_same, dirty_by, dirty_absent, taken_by}
 use Rattle.std.specs.Prelude.{Option, Some, None}
 use Rattle.chains.specs.Chains.{counted, at, newest}
-use Rattle.chains.specs.declared.Chains.{Chains}
 use Rattle.chains.proofs.Newest.{newest-at, newest_beyond}
 use Rattle.recency.specs.Order.{lasts, order}
-use Rattle.recency.specs.Linked.{places, buckets, Linked, CanLink, last_from}
+use Rattle.recency.specs.Linked.{Linked, CanLink, last_from}
 use Rattle.recency.specs.declared.Mark.{Mark}
 use Rattle.recency.specs.declared.Mark.TheVariants.{Clean, Stale}
 use Rattle.recency.specs.Held.{part, residents, state_of, is_stale, wrote, wrote_in, frames, Marked, Held, Holds, CanShorten, CanAppend, CanMark, count_with, stale_with, written_with, CanUse, Gone}
 use Rattle.recency.specs.declared.Queue.{Queue}
-use Rattle.recency.specs.declared.Log.{Log}
+use Rattle.recency.specs.State.{State}
 use Rattle.recency.proofs.Order.{order_use, has-order, distinct_lasts}
 use Rattle.recency.proofs.Linking.{linked_store}
 use Rattle.recency.proofs.Counting.{part_none}
@@ -35,7 +34,7 @@ use Rattle.recency.proofs.Fresh.{state_live, state_says}
 
 -- ---- a page that is resident
 
-module _ {l : Log} (h : Held l) where
+module _ {l : State} (h : Held l) where
   -- A page is resident exactly if its last place is found.
   pub has_held : (p : ℕ) {e : ℕ} → e ≡ last_from l.queue.low l.pages l.queue.now p → has p (residents l) ≡ ltb l.queue.low e
   unfolding residents last_from
@@ -61,12 +60,12 @@ module _ {l : Log} (h : Held l) where
   gone_held g = record { logged = g.logged; linked = rw g.now_is h.linked; room = rw g.now_is h.room }
 
 -- No page is resident twice.
-distinct_held : (l : Log) → Distinct (residents l)
+distinct_held : (l : State) → Distinct (residents l)
 unfolding residents order
 distinct_held l = distinct_reverse (lasts (part l.pages l.queue.low l.queue.now)) (distinct_lasts (part l.pages l.queue.low l.queue.now))
 
 -- A page that stays when another is taken out is resident, and another one.
-stays : (l : Log) (page p : ℕ) → has p (remove page (residents l)) ≡ true → (has p (part l.pages l.queue.low l.queue.now) ≡ true) × (eqb page p ≡ false)
+stays : (l : State) (page p : ℕ) → has p (remove page (residents l)) ≡ true → (has p (part l.pages l.queue.low l.queue.now) ≡ true) × (eqb page p ≡ false)
 unfolding residents
 stays l page p h =
     let o = split (eqb page p)
@@ -77,7 +76,7 @@ stays l page p h =
 
 -- ---- a page appended
 
-module _ {l : Log} {page : ℕ} (can : CanAppend l page) where
+module _ {l : State} {page : ℕ} (can : CanAppend l page) where
   abbrev log : List ℕ
   log = l.pages
 
@@ -90,8 +89,11 @@ module _ {l : Log} {page : ℕ} (can : CanAppend l page) where
   abbrev log' : List ℕ
   log' = set log q.now page
 
-  pub append_link : length log ≡ places → CanLink log' l.chains.next l.chains.heads q.now
-  append_link e = record { linked = linked_store can.linked q.now page (omega arith); room = rw length-set can.room; few = omega (arith, can.room) }
+  pub append_stales : q.now < length stale
+  append_stales = omega (arith, can.room, can.stale_long)
+
+  pub append_link : CanLink log' l.next l.heads q.now
+  append_link = record { linked = linked_store can.linked q.now page (omega arith); room = rw length-set can.room }
 
   was_long : length (take q.now log) ≡ q.now
   was_long = length-take-le q.now log (omega (arith, can.room))
@@ -106,16 +108,13 @@ module _ {l : Log} {page : ℕ} (can : CanAppend l page) where
   unfolding residents
   order_is = rw (longer, drop-append-le q.low (take q.now log) (page ∷ []) (omega (arith, was_long, can.behind))) (order_use page (part log q.low q.now))
 
-  module _ (w : Bool) {v : Mark} (says : v ≡ state_of w) (long : length stale ≡ length log) where
+  module _ (w : Bool) {v : Mark} (says : v ≡ state_of w) where
     abbrev stale' : List Mark
     stale' = set stale q.now v
 
     -- The log then, with its chains.
-    abbrev after : Chains places buckets → Log
-    after chains = record { pages = log'; marks = stale'; chains = chains; queue = record { resident = q.resident; low = q.low; now = q.now + 1 } }
-
-    append_stales : q.now < length stale
-    append_stales = omega (arith, can.room)
+    abbrev after : List ℕ → List ℕ → State
+    after next heads = record { pages = log'; marks = stale'; next = next; heads = heads; queue = record { resident = q.resident; low = q.low; now = q.now + 1 } }
 
     marked : Marked log' stale' q.low (q.now + 1)
     unfolding has
@@ -154,8 +153,8 @@ module _ {l : Log} {page : ℕ} (can : CanAppend l page) where
         let l = last_place_lem log q.low q.now p can.behind (omega (arith, can.room)) k e refl in
         rw (last_other log q.low q.now page p can.room o, get_or-set_other stale q.now (e - 1) v Clean (λ y. omega (arith, l.0, l.1)))
 
-    module _ (chains : Chains places buckets) where
-      frames_new : frames (after chains) ≡ framed page w ∷ taken page (frames l)
+    module _ (next heads : List ℕ) where
+      frames_new : frames (after next heads) ≡ framed page w ∷ taken page (frames l)
       unfolding frames residents
       frames_new =
           let u = wrote log' stale' q.low (q.now + 1) in
@@ -166,25 +165,27 @@ module _ {l : Log} {page : ℕ} (can : CanAppend l page) where
           ∙ ap (λ (l : List Frame). framed page w ∷ l) (by_same u y r wrote_other ∙ sym (taken_by y page (residents l)))
 
       -- It can be made short,
-      pub append_shorten : CanShorten (after chains)
+      pub append_shorten : Linked log' next heads (q.now + 1) → CanShorten (after next heads)
       unfolding residents
-      append_shorten = record {
-        pack = record { behind = omega (arith, can.behind); within = long_enough; marked = marked };
+      append_shorten i = record {
+        pack = record { behind = omega (arith, can.behind); within = long_enough; stale_long = rw (length-set, length-set) can.stale_long; marked = marked };
+        linked = i;
         few = rw (length-set, order_is) (omega (arith, can.count, can.few));
       }
 
       -- and holds the same frames then.
-      pub append_short : {l' : Log} → Holds (frames (after chains)) l' → Holds (framed page w ∷ taken page (frames l)) l'
+      pub append_short : {l' : State} → Holds (frames (after next heads)) l' → Holds (framed page w ∷ taken page (frames l)) l'
       append_short h = rw frames_new at h
 
       -- With room for a use more, it holds them.
-      pub appended : Linked log' chains.next chains.heads (q.now + 1) → q.now + 1 < length log' → Holds (framed page w ∷ taken page (frames l)) (after chains)
+      pub appended : Linked log' next heads (q.now + 1) → q.now + 1 < length log' → Holds (framed page w ∷ taken page (frames l)) (after next heads)
       unfolding residents
       appended i r = record {
         held = record {
           logged = record {
             behind = omega (arith, can.behind);
             within = long_enough;
+            stale_long = rw (length-set, length-set) can.stale_long;
             marked = marked;
             count = rw order_is can.count;
           };
@@ -204,7 +205,7 @@ found_low low log n p {j} k =
     (λ t. let z : suc j ≡ newest (at log) p n = rw t at k in omega (arith, ltb-true low (newest (at log) p n) t))
     (λ t. let z : suc j ≡ 0 = rw t at k in absurd (omega arith))
 
-module _ {l : Log} {page : ℕ} {o : Option ℕ} (can : CanUse l page o) where
+module _ {l : State} {page : ℕ} {o : Option ℕ} (can : CanUse l page o) where
   module _ {j : ℕ} (found : o ≡ Some j) where
     last_is : suc j ≡ last_from l.queue.low l.pages l.queue.now page
     unfolding counted
@@ -229,15 +230,15 @@ module _ {l : Log} {page : ℕ} {o : Option ℕ} (can : CanUse l page o) where
     has_it = has_held can.held page last_is ∙ lt-ltb l.queue.low (suc j) (omega (arith, from))
 
     -- What stands before the page's last place is stale already.
-    found_marks : length l.marks ≡ length l.pages → (r : ℕ) → l.queue.low ≤ r → r < l.queue.now
+    found_marks : (r : ℕ) → l.queue.low ≤ r → r < l.queue.now
         → is_stale (get_or (set l.marks j Stale) r Clean) ≡ has (get_or l.pages r 0) (drop (r + 1) (take l.queue.now l.pages)) || eqb (get_or l.pages r 0) page
     unfolding at
-    found_marks long r f h =
+    found_marks r f h =
         let g = can.held.logged in
         split (eqb r j)
         (λ t.
         let z = same r j t in
-        let w : j < length l.marks = omega (arith, place_of.1, can.held.room) in
+        let w : j < length l.marks = omega (arith, place_of.1, can.held.room, can.held.logged.stale_long) in
         rw (z, get_or-set_same l.marks j Stale Clean w, eq-eqb (get_or l.pages j 0) page place_of.0, or-true))
         (λ t.
         let d = eqb-false r j t in
@@ -271,31 +272,32 @@ by_found : {C : Type 0} (o : Option ℕ) → (o ≡ None → C) → ((j : ℕ) �
 by_found None n s = n refl
 by_found (Some j) n s = s j refl
 
-module _ {l : Log} {page : ℕ} {o : Option ℕ} (can : CanUse l page o) where
-  -- The l.pages once it is marked.
-  abbrev marked_log : Log
+module _ {l : State} {page : ℕ} {o : Option ℕ} (can : CanUse l page o) where
+  -- The log once it is marked.
+  abbrev marked_log : State
   marked_log = record l { marks = stale_with o l.marks; queue = record l.queue { resident = count_with o l.queue.resident } }
 
   -- Its last place can be marked,
-  pub use_mark : length l.marks ≡ places → length l.pages ≡ places → CanMark l o
+  pub use_mark : CanMark l o
   unfolding counted
-  use_mark a b = record {
-    within = by_found o (λ e. rw e (omega arith)) (λ j e. rw e (omega (arith, (place_of can e).1, can.held.room)));
-    small = omega (arith, can.few);
+  use_mark = record {
+    within = by_found o (λ e. rw e (omega arith)) (λ j e. rw e (omega (arith, (place_of can e).1, can.held.room, can.held.logged.stale_long)));
+    small = omega (arith, can.few, can.held.linked.small);
   }
 
-  pub use_reads : length l.marks ≡ places → length l.pages ≡ places → counted o ≤ length l.marks
-  use_reads a b = (use_mark a b).within
+  pub use_reads : counted o ≤ length l.marks
+  use_reads = use_mark.within
 
   -- and then it can be appended.
-  pub use_append : length l.marks ≡ places → length l.pages ≡ places → CanAppend marked_log page
+  use_append_lem : CanAppend marked_log page
   unfolding residents
-  use_append a b =
+  use_append_lem =
       let h = can.held in
       by_found o
       (λ e.
       rw e record {
         behind = h.logged.behind;
+        stale_long = h.logged.stale_long;
         linked = h.linked;
         room = h.room;
         marks = λ r f k. rw (other can e r f k, or-false) (h.logged.marked.are r f k);
@@ -305,12 +307,16 @@ module _ {l : Log} {page : ℕ} {o : Option ℕ} (can : CanUse l page o) where
       (λ j e.
       rw e record {
         behind = h.logged.behind;
+        stale_long = rw length-set h.logged.stale_long;
         linked = h.linked;
         room = h.room;
-        marks = found_marks can e (omega arith);
+        marks = found_marks can e;
         count = length_move page (residents l) (has_it can e) ∙ length_held h;
         few = omega (arith, can.few);
       })
+
+  pub use_append : {m : State} → m ≡ marked_log → CanAppend m page
+  use_append e = rw e use_append_lem
 
   -- ---- what it leaves
 
@@ -346,9 +352,9 @@ module _ {l : Log} {page : ℕ} {o : Option ℕ} (can : CanUse l page o) where
       rw (e, get_or-set_other l.marks j (d - 1) Stale Clean (λ i. eqb-false page p x (sym f ∙ ap (λ (n : ℕ). get_or l.pages n 0) (sym i) ∙ z.2)))))
       ∙ sym (taken_by y page (residents l))
 
-  pub use_done : (w : Bool) {v : Bool} → v ≡ written_with o l.marks w → {l' : Log} → Holds (framed page v ∷ taken page (frames marked_log)) l'
+  pub use_done : (w : Bool) {v : Bool} → v ≡ written_with o l.marks w → {m l' : State} → m ≡ marked_log → Holds (framed page v ∷ taken page (frames m)) l'
       → Holds (framed page (dirty page (frames l) || w) ∷ taken page (frames l)) l'
-  use_done w b h = rw (others, b, written_is w) at h
+  use_done w b e h = rw (e, others, b, written_is w) at h
 
 -- A page that is not found is not found in a shorter part either.
 pub last_later : (low low' : ℕ) (log : List ℕ) (n p : ℕ) {e : ℕ} → e ≡ last_from low log n p → e ≤ low → low ≤ low' → e ≡ last_from low' log n p

@@ -14,7 +14,7 @@ use Rattle.pages.proofs.Rows.{drop_next, over_more}
 use Rattle.recency.specs.declared.Mark.{Mark}
 use Rattle.recency.specs.declared.Mark.TheVariants.{Clean}
 use Rattle.recency.specs.Held.{state_of, CanCopy, Copied}
-use Rattle.recency.specs.declared.Log.{Log}
+use Rattle.recency.specs.State.{State}
 
 -- From place r on they are.
 pub record Copying (list : List ℕ) (kept : List Bool) (log₀ : List ℕ) (stale₀ : List Mark) (log : List ℕ) (stale : List Mark) (i r : ℕ) : Type 0 where
@@ -25,7 +25,7 @@ pub record Copying (list : List ℕ) (kept : List Bool) (log₀ : List ℕ) (sta
   pub pages-at : (j : ℕ) → r ≤ j → j < length list → get_or log (length list - 1 - j) 0 ≡ get_or list j 0
   pub marks_at : (j : ℕ) → r ≤ j → j < length list → get_or stale (length list - 1 - j) Clean ≡ state_of (get_or kept j false)
 
-module _ {list : List ℕ} {kept : List Bool} {l : Log} (can : CanCopy list kept l) where
+module _ {list : List ℕ} {kept : List Bool} {l : State} (can : CanCopy list kept l) where
   abbrev log₀ : List ℕ
   log₀ = l.pages
 
@@ -48,8 +48,11 @@ module _ {list : List ℕ} {kept : List Bool} {l : Log} (can : CanCopy list kept
       copying_reads : r - 1 < length list
       copying_reads = omega (arith, p.count)
 
-      copying_writes : i < length log
+      pub copying_writes : i < length log
       copying_writes = omega (arith, p.count, p.same_length, can.room)
+
+      pub copying_says : i < length stale
+      copying_says = omega (arith, p.count, p.stale_length, can.stale_long)
 
       abbrev x : ℕ
       x = get_or list (r - 1) 0
@@ -74,9 +77,9 @@ module _ {list : List ℕ} {kept : List Bool} {l : Log} (can : CanCopy list kept
           rw (z, k, get_or-set_same row i v d w) e)
           (λ y. let n = eqb-false j (r - 1) y in get_or-set_other row i (length list - 1 - j) v d (λ q. omega (arith, p.count)) ∙ t j (omega arith) o)
 
-      copying_more_lem : i < length stale → {v : Mark} → v ≡ state_of (get_or kept (r - 1) false)
+      copying_more_lem : {v : Mark} → v ≡ state_of (get_or kept (r - 1) false)
           → Copying list kept log₀ stale₀ (set log i x) (set stale i v) (i + 1) (r - 1)
-      copying_more_lem copying_says {v} e = record {
+      copying_more_lem {v} e = record {
         count = omega (arith, p.count);
         same_length = length-set log i x ∙ p.same_length;
         stale_length = length-set stale i v ∙ p.stale_length;
@@ -85,11 +88,11 @@ module _ {list : List ℕ} {kept : List Bool} {l : Log} (can : CanCopy list kept
         marks_at = at_more Clean stale v (λ j. state_of (get_or kept j false)) copying_says e p.marks_at;
       }
 
-    pub copying_more : 0 < r → length stale₀ ≡ length log₀ → {j : ℕ} → j ≡ r - 1 → {r' : ℕ} → r' ≡ r - 1 → {v : Mark} → v ≡ state_of (get_or kept j false)
+    pub copying_more : 0 < r → {j : ℕ} → j ≡ r - 1 → {r' : ℕ} → r' ≡ r - 1 → {v : Mark} → v ≡ state_of (get_or kept j false)
         → Copying list kept log₀ stale₀ (set log i (get_or list j 0)) (set stale i v) (i + 1) r'
-    copying_more h long a b e = rw (a, b) (copying_more_lem h (omega (arith, p.count, p.stale_length, can.room)) (rw a at e))
+    copying_more h a b e = rw (a, b) (copying_more_lem h (rw a at e))
 
-  pub copying_all : {l' : Log} {i r : ℕ} → Copying list kept log₀ stale₀ l'.pages l'.marks i r → r ≤ 0 → Copied list kept l l'
+  pub copying_all : {l' : State} {i r : ℕ} → Copying list kept log₀ stale₀ l'.pages l'.marks i r → r ≤ 0 → Copied list kept l l'
   copying_all {l'} {i} {r} p h =
       let e : r ≡ 0 = omega arith in
       record { pages_are = rw e at p.done; pages-at = λ j o. p.pages-at j (omega arith) o; marks_at = λ j o. p.marks_at j (omega arith) o }

@@ -1,5 +1,5 @@
 -- A log of distinct pages, chained anew: one that was made short, or that a start was put in. Assumes nothing.
-use Prim.Native.Nat.{ℕ, zero, suc, ◌+◌, ◌-◌, ◌<◌}
+use Prim.Native.Nat.{ℕ, zero, suc, ◌+◌, ◌-◌, ◌≤◌, ◌<◌}
 use mathlib.Core.Path.{◌≡◌, refl, sym, ap, ◌∙◌}
 use mathlib.Core.Bool.{Bool, true, false}
 use mathlib.Core.List.{List, [], ◌∷◌, reverse, reverse-reverse}
@@ -10,16 +10,15 @@ use lib.Seq.{length-take-le, get_or-take}
 use Rattle.pages.specs.Pages.{has, place, Distinct}
 use Rattle.pages.proofs.Added.{has-reverse, distinct_reverse}
 use Rattle.pages.proofs.Table.{get_or-place, place_within, place_alone}
-use Rattle.pages.proofs.Rows.{take_over, length_over}
+use Rattle.pages.proofs.Rows.{take_over}
 use Rattle.frames.specs.Frames.{frames_by, frames_of}
 use Rattle.frames.proofs.By.{by_same, by_columns}
 use Rattle.recency.specs.Order.{order}
-use Rattle.chains.specs.declared.Chains.{Chains}
-use Rattle.recency.specs.Linked.{places, buckets, Linked, CanIndex}
+use Rattle.recency.specs.Linked.{Linked, CanIndex}
 use Rattle.recency.specs.declared.Mark.TheVariants.{Clean}
 use Rattle.recency.specs.Held.{part, residents, state_of, is_stale, is_written, wrote, wrote_in, frames, Held, Holds, Packed, CanShorten, CanCopy, Copied, CanLoad}
 use Rattle.recency.specs.declared.Queue.{Queue}
-use Rattle.recency.specs.declared.Log.{Log}
+use Rattle.recency.specs.State.{State, AsLong}
 use Rattle.recency.proofs.Order.{order_distinct, distinct_lasts, length-order}
 use Rattle.recency.proofs.Places.{wrote_live}
 
@@ -34,10 +33,10 @@ abbrev pub whole : ℕ → Queue
 whole n = record { resident = n; low = 0; now = n }
 
 -- A log of which that is so, with its chains.
-abbrev pub fresh : Log → Chains places buckets → ℕ → Log
-fresh l chains n = record l { chains = chains; queue = whole n }
+abbrev pub fresh : State → List ℕ → List ℕ → ℕ → State
+fresh l next heads n = record l { next = next; heads = heads; queue = whole n }
 
-module _ (l : Log) {chains : Chains places buckets} {n : ℕ} (linked : Linked l.pages chains.next chains.heads n) (once : Distinct (take n l.pages)) (room : n < length l.pages) where
+module _ (l : State) {next heads : List ℕ} {n : ℕ} (linked : Linked l.pages next heads n) (once : Distinct (take n l.pages)) (room : n < length l.pages) (long : length l.pages ≤ length l.marks) where
   abbrev log : List ℕ
   log = l.pages
 
@@ -48,12 +47,13 @@ module _ (l : Log) {chains : Chains places buckets} {n : ℕ} (linked : Linked l
   again r h = rw (← get_or-take n log r 0 h, add-one) (distinct_behind (take n log) once r (omega (arith, first)))
 
   module _ (live : (j : ℕ) → j < n → is_stale (get_or l.marks j Clean) ≡ false) where
-    fresh_held : Held (fresh l chains n)
+    fresh_held : Held (fresh l next heads n)
     unfolding residents
     fresh_held = record {
       logged = record {
         behind = omega arith;
         within = omega arith;
+        stale_long = long;
         marked = record { are = λ r f h. live r h ∙ sym (again r h) };
         count = rw (order_distinct (take n log) once, length-reverse) first;
       };
@@ -63,7 +63,7 @@ module _ (l : Log) {chains : Chains places buckets} {n : ℕ} (linked : Linked l
 
     -- It holds its pages, each written as its place says.
     pub fresh_holds : (w : ℕ → Bool) → ((j : ℕ) → j < n → is_written (get_or l.marks j Clean) ≡ w (get_or log j 0))
-        → Holds (frames_by w (reverse (take n log))) (fresh l chains n)
+        → Holds (frames_by w (reverse (take n log))) (fresh l next heads n)
     unfolding frames residents
     fresh_holds w says =
         let f = take n log in
@@ -84,21 +84,25 @@ module _ (l : Log) {chains : Chains places buckets} {n : ℕ} (linked : Linked l
 -- ---- a log made short
 
 -- It holds the frames that it held.
-module _ {l l' : Log} {n : ℕ} (can : CanShorten l) (p : Packed l l' n) where
+module _ {l l' : State} {n : ℕ} (can : CanShorten l) (p : Packed l l' n) (long : AsLong l l') where
   count : n ≡ length (residents l)
   unfolding residents
   count = sym (length-take-le n l'.pages p.within) ∙ ap length p.lasts_are ∙ sym (length-order (part l.pages l.queue.low l.queue.now))
 
-  pub shorten_index : length l'.pages ≡ places → CanIndex l'.pages n
-  shorten_index e = record { within = p.within; few = omega (arith, p.within) }
+  pub shorten_index : CanIndex l'.pages l'.next l'.heads n
+  shorten_index = record {
+    within = p.within;
+    small = omega (arith, long.pages, can.linked.small);
+    next_long = omega (arith, long.pages, long.next, can.linked.next_long);
+    heads_long = omega (arith, long.heads, can.linked.heads_long);
+  }
 
-  pub shortened : length l'.pages ≡ length l.pages → {chains : Chains places buckets} → Linked l'.pages chains.next chains.heads n
-      → Holds (frames l) (fresh l' chains n)
+  pub shortened : {next heads : List ℕ} → Linked l'.pages next heads n → Holds (frames l) (fresh l' next heads n)
   unfolding frames residents order
-  shortened e linked =
+  shortened linked =
       let t = p.lasts_are in
       let d : Distinct (take n l'.pages) = rw t (distinct_lasts (part l.pages l.queue.low l.queue.now)) in
-      rw t at (fresh_holds l' linked d (omega (arith, count, can.few)) p.live (wrote_in l) p.said)
+      rw t at (fresh_holds l' linked d (omega (arith, count, can.few, long.pages)) (omega (arith, long.pages, long.marks, can.pack.stale_long)) p.live (wrote_in l) p.said)
 
 -- ---- a start
 
@@ -110,19 +114,21 @@ pub state_says : (w : Bool) → is_written (state_of w) ≡ w
 state_says true = refl
 state_says false = refl
 
-module _ {list : List ℕ} {kept : List Bool} (can : CanLoad list kept) {l : Log} (long : length l.pages ≡ places) where
+module _ {list : List ℕ} {kept : List Bool} {l : State} (can : CanLoad list kept l) where
   pub load_copy : CanCopy list kept l
-  load_copy = record { marks = can.marks; room = omega (arith, can.few) }
+  load_copy = record { marks = can.marks; room = omega (arith, can.few); stale_long = omega (arith, can.few, can.stale_long) }
 
-  module _ {l' : Log} (c : Copied list kept l l') where
+  module _ {l' : State} (c : Copied list kept l l') (long : AsLong l l') where
     back : length (reverse list) ≡ length list
     back = length-reverse list
 
-    same_log : length l'.pages ≡ length l.pages
-    same_log = rw c.pages_are (length_over (reverse list) l.pages (omega (arith, back, can.few)))
-
-    pub load_index : CanIndex l'.pages (length list)
-    load_index = record { within = omega (arith, same_log, can.few); few = omega (arith, can.few) }
+    pub load_index : CanIndex l'.pages l'.next l'.heads (length list)
+    load_index = record {
+      within = omega (arith, long.pages, can.few);
+      small = omega (arith, long.pages, can.small);
+      next_long = omega (arith, long.pages, long.next, can.next_long);
+      heads_long = omega (arith, long.heads, can.heads_long);
+    }
 
     -- Place j from the front is as far from the end as its page is in the list.
     abbrev mark_of : ℕ → Bool
@@ -136,11 +142,11 @@ module _ {list : List ℕ} {kept : List Bool} (can : CanLoad list kept) {l : Log
         let b : get_or l'.marks j Clean ≡ state_of (get_or kept k false) = rw z at (c.marks_at k (omega arith)) in
         b ∙ ap (λ (i : ℕ). state_of (get_or kept i false)) (place_alone (get_or l'.pages j 0) list k can.once (omega arith) (sym a))
 
-    pub loaded : {chains : Chains places buckets} → Linked l'.pages chains.next chains.heads (length list) → Holds (frames_of list kept) (fresh l' chains (length list))
+    pub loaded : {next heads : List ℕ} → Linked l'.pages next heads (length list) → Holds (frames_of list kept) (fresh l' next heads (length list))
     loaded i =
         let t : take (length list) l'.pages ≡ reverse list = rw (c.pages_are, ← back) (take_over (reverse list) l.pages) in
         let d : Distinct (take (length list) l'.pages) = rw t (distinct_reverse list can.once) in
-        let h = fresh_holds l' i d (omega (arith, same_log, can.few))
+        let h = fresh_holds l' i d (omega (arith, long.pages, can.few)) (omega (arith, long.pages, long.marks, can.stale_long))
         (λ j o. rw (at_place j o) (state_live (mark_of (get_or l'.pages j 0)))) mark_of (λ j o. rw (at_place j o) (state_says (mark_of (get_or l'.pages j 0)))) in
         let g = by_columns mark_of list kept can.marks (λ j o. ap (λ (k : ℕ). get_or kept k false) (sym (place_alone (get_or list j 0) list j can.once o refl))) in
         rw (t, reverse-reverse list, g) at h

@@ -1,5 +1,6 @@
 pub mod Once
 pub mod Order
+pub mod Keeping
 pub mod Linking
 pub mod Counting
 pub mod Places
@@ -7,5 +8,6 @@ pub mod Packing
 pub mod Aging
 pub mod Copying
 pub mod Saving
+pub mod Unchained
 pub mod Fresh
 pub mod Appending

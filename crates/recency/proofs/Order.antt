@@ -1,8 +1,9 @@
 -- Laws of a log: what a use at its end, a stale place at its front, and its last places alone do to the order. Assumes nothing.
-use Prim.Native.Nat.{ℕ}
+use Prim.Native.Nat.{ℕ, ◌≤◌}
 use mathlib.Core.Path.{◌≡◌, refl, ap, ◌∙◌}
 use mathlib.Core.Bool.{Bool, true, false, ◌||◌}
 use mathlib.Core.List.{List, [], ◌∷◌, ◌++◌, append-nil, reverse, reverse-cons}
+use native.Mathlib.Omega.{arith}
 use lib.ListN.{length, length-reverse}
 use lib.Dec.{eqb}
 use Rattle.pages.specs.Pages.{has, remove, Distinct}
@@ -60,6 +61,12 @@ order_distinct l d = rw (lasts_distinct l d)
 pub length-order : (l : List ℕ) → length (order l) ≡ length (lasts l)
 unfolding order
 length-order l = length-reverse (lasts l)
+
+-- There are no more of them than places.
+pub lasts_most : (l : List ℕ) → length (lasts l) ≤ length l
+unfolding lasts
+lasts_most [] = omega arith
+lasts_most (q ∷ l) = let h = lasts_most l in split (has q l) (λ e. rw e (omega arith)) (λ e. rw e (omega arith))
 
 -- ---- the order
 

@@ -1,6 +1,6 @@
 -- The places of a log that count, moved to its front with what they say. Assumes nothing.
 use Prim.Native.Nat.{ℕ, ◌+◌, ◌≤◌, ◌<◌}
-use mathlib.Core.Path.{◌≡◌, sym, ap, ◌∙◌}
+use mathlib.Core.Path.{◌≡◌, refl, sym, ap, ◌∙◌}
 use mathlib.Core.Bool.{false, true}
 use mathlib.Core.List.{List, ◌∷◌, ◌++◌, append-nil}
 use native.Mathlib.Omega.{arith}
@@ -15,7 +15,7 @@ use Rattle.recency.specs.Order.{lasts}
 use Rattle.recency.specs.declared.Mark.{Mark}
 use Rattle.recency.specs.declared.Mark.TheVariants.{Clean}
 use Rattle.recency.specs.Held.{part, is_stale, is_written, wrote, CanPack, Packed}
-use Rattle.recency.specs.declared.Log.{Log}
+use Rattle.recency.specs.State.{State}
 use Rattle.recency.proofs.Order.{lasts_live, lasts_stale}
 use Rattle.recency.proofs.Counting.{part_next, part_none, place_live, place_stale}
 use Rattle.recency.proofs.Places.{wrote_live}
@@ -33,7 +33,7 @@ pub record Packing (log₀ : List ℕ) (stale₀ : List Mark) (low end : ℕ) (l
   pub live : (j : ℕ) → j < w → is_stale (get_or stale j Clean) ≡ false
   pub said : (j : ℕ) → j < w → is_written (get_or stale j Clean) ≡ wrote log₀ stale₀ low end (get_or log j 0)
 
-module _ {l : Log} (can : CanPack l) where
+module _ {l : State} (can : CanPack l) where
   abbrev log₀ : List ℕ
   log₀ = l.pages
 
@@ -45,6 +45,20 @@ module _ {l : Log} (can : CanPack l) where
 
   abbrev end : ℕ
   end = l.queue.now
+
+  pub packing_none : Packing log₀ stale₀ low end log₀ stale₀ low 0
+  packing_none = record {
+    from = omega arith;
+    within = can.behind;
+    behind = omega arith;
+    same_length = refl;
+    stale_length = refl;
+    rest = refl;
+    rest_says = λ j h. refl;
+    done = refl;
+    live = λ j h. absurd (omega arith);
+    said = λ j h. absurd (omega arith);
+  }
 
   module _ {log : List ℕ} {stale : List Mark} {r w : ℕ} (p : Packing log₀ stale₀ low end log stale r w) where
     module _ (h : r < end) where
@@ -58,8 +72,17 @@ module _ {l : Log} (can : CanPack l) where
       after_is : drop (r + 1) log ≡ drop (r + 1) log₀
       after_is = let n = next in cc
 
-      packing_writes : w < length log
-      packing_writes = omega (arith, p.behind, p.same_length, can.within)
+      pub packing_reads : r < length log
+      packing_reads = omega (arith, p.same_length, can.within)
+
+      pub packing_writes : w < length log
+      packing_writes = omega (arith, p.behind, packing_reads)
+
+      pub packing_stales : r < length stale
+      packing_stales = omega (arith, can.within, can.stale_long, p.stale_length)
+
+      pub packing_says : w < length stale
+      packing_says = omega (arith, p.behind, packing_stales)
 
       abbrev after : List ℕ
       after = drop (r + 1) (take end log₀)
@@ -93,10 +116,7 @@ module _ {l : Log} (can : CanPack l) where
             said = λ j g. rw (kept_says j g, kept_log j g) (p.said j g);
           }
 
-      module _ (n : is_stale (get_or stale r Clean) ≡ false) (long : length stale₀ ≡ length log₀) where
-        packing_says : w < length stale
-        packing_says = omega (arith, p.behind, can.within, p.stale_length)
-
+      module _ (n : is_stale (get_or stale r Clean) ≡ false) where
         here : has (get_or log₀ r 0) after ≡ false
         here = place_live can.marked p.from h (ap is_stale (sym (p.rest_says r (omega arith))) ∙ n)
 
@@ -129,7 +149,7 @@ module _ {l : Log} (can : CanPack l) where
           said = said_more;
         }
 
-  pub packing_all : {l' : Log} {r w : ℕ} → Packing log₀ stale₀ low end l'.pages l'.marks r w → end ≤ r → Packed l l' w
+  pub packing_all : {l' : State} {r w : ℕ} → Packing log₀ stale₀ low end l'.pages l'.marks r w → end ≤ r → Packed l l' w
   unfolding lasts
   packing_all {l'} {r} {w} p h = record {
     lasts_are = sym (p.done ∙ rw (part_none log₀ end can.within r h) (append-nil (take w l'.pages)));

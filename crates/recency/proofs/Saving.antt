@@ -18,7 +18,7 @@ use Rattle.recency.specs.declared.Mark.{Mark}
 use Rattle.recency.specs.declared.Mark.TheVariants.{Clean}
 use Rattle.recency.specs.Held.{part, is_stale, is_written, residents, wrote, frames, CanSave}
 use Rattle.recency.specs.declared.Queue.{Queue}
-use Rattle.recency.specs.declared.Log.{Log}
+use Rattle.recency.specs.State.{State}
 use Rattle.recency.proofs.Order.{order_live, order_stale, length-order}
 use Rattle.recency.proofs.Counting.{part_next, part_none, place_live, place_stale, lasts_grow}
 use Rattle.recency.proofs.Places.{wrote_live}
@@ -33,7 +33,7 @@ pub record Saving (log : List ℕ) (stale : List Mark) (low end : ℕ) (list₀ 
   pub done : list ≡ over (order (drop r (take end log))) list₀
   pub marks_done : kept ≡ over (map (wrote log stale low end) (order (drop r (take end log)))) kept₀
 
-module _ {l : Log} {list₀ : List ℕ} {kept₀ : List Bool} (can : CanSave l list₀ kept₀) where
+module _ {l : State} {list₀ : List ℕ} {kept₀ : List Bool} (can : CanSave l list₀ kept₀) where
   abbrev log : List ℕ
   log = l.pages
 
@@ -62,6 +62,12 @@ module _ {l : Log} {list₀ : List ℕ} {kept₀ : List Bool} (can : CanSave l l
 
       one : r - 1 + 1 ≡ r
       one = omega arith
+
+      pub saving_reads : r - 1 < length log
+      saving_reads = omega (arith, p.within, can.logged.within)
+
+      pub saving_stales : r - 1 < length stale
+      saving_stales = omega (arith, saving_reads, can.logged.stale_long)
 
       next : drop (r - 1) (take q.now log) ≡ page ∷ behind
       next = part_next log q.now can.logged.within (r - 1) (omega (arith, p.within)) ∙ rw one

@@ -7,7 +7,7 @@ use Rattle.recency.specs.Order.{lasts, order}
 use Rattle.recency.specs.Linked.{bucket_of, last_from}
 use Rattle.recency.specs.Held.{residents, wrote, frames, count_with, stale_with, written_with}
 use Rattle.recency.specs.declared.Mark.TheVariants.{Clean, Stale, Written}
-use Rattle.recency.specs.declared.Log.{Log}
+use Rattle.recency.specs.State.{State}
 
 -- Page 5 was used twice: it counts where it was used last.
 used_twice : lasts (5 ∷ 7 ∷ 5 ∷ 9 ∷ []) ≡ 7 ∷ 5 ∷ 9 ∷ []
@@ -20,11 +20,12 @@ unfolding order lasts has
 in_order = refl
 
 -- Of a log the places from 1 up to 5 are in use: page 3 was evicted, and places 1 and 2 are stale.
-log : Log
+log : State
 log = record {
   pages = 3 ∷ 7 ∷ 8 ∷ 8 ∷ 7 ∷ 0 ∷ [];
   marks = Clean ∷ Stale ∷ Stale ∷ Written ∷ Clean ∷ Clean ∷ [];
-  chains = record { heads = []; next = [] };
+  next = [];
+  heads = [];
   queue = record { resident = 2; low = 1; now = 5 };
 }
 

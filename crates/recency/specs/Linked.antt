@@ -2,10 +2,6 @@
 use Rattle.std.specs.Prelude.{ℕ, ◌≤◌, ◌<◌, cond, List, length, ltb}
 use Rattle.chains.specs.Chains.{at, newest, Chained, bucket_in}
 
--- How many places the chains have room for.
-abbrev pub places : ℕ
-places = 8192
-
 -- How many buckets there are.
 abbrev pub buckets : ℕ
 buckets = 8192
@@ -18,22 +14,25 @@ bucket_of p = bucket_in buckets p
 unfoldable pub bucket_at : List ℕ → ℕ → ℕ
 bucket_at log j = bucket_of (at log j)
 
--- The first n places of a list of pages are chained by their pages' buckets, and are no more than there is room for.
+-- The first n places of a list of pages are chained by their pages' buckets, and the rows have room for all of its places.
 pub record Linked (log next heads : List ℕ) (n : ℕ) : Type 0 where
   pub chained : Chained (bucket_at log) n 0 heads next
   pub within : n ≤ length log
-  pub few : n ≤ places
+  pub small : length log ≤ 65535
+  pub next_long : length log ≤ length next
+  pub heads_long : buckets ≤ length heads
 
 -- Place c can be chained: those before it are.
 pub record CanLink (log next heads : List ℕ) (c : ℕ) : Type 0 where
   pub linked : Linked log next heads c
   pub room : c < length log
-  pub few : c < places
 
--- The first n places of a list of pages can be chained.
-pub record CanIndex (log : List ℕ) (n : ℕ) : Type 0 where
+-- The rows have room for a list of pages, of which the first n places are to be chained.
+pub record CanIndex (log next heads : List ℕ) (n : ℕ) : Type 0 where
   pub within : n ≤ length log
-  pub few : n ≤ places
+  pub small : length log ≤ 65535
+  pub next_long : length log ≤ length next
+  pub heads_long : buckets ≤ length heads
 
 -- The last place of page p from low on among the first n of a list, counted from 1, or 0 where there is none.
 unfoldable pub last_from : ℕ → List ℕ → ℕ → ℕ → ℕ

@@ -6,11 +6,11 @@ ghost use Rattle.std.specs.Prelude.{◌≡◌, ◌+◌, ◌≤◌, ◌<◌, leng
 ghost use Rattle.pages.specs.Rows.{over};
 ghost use Rattle.frames.specs.Frames.{framed, pages_of, marks_of, frames_of, dirty, taken};
 ghost use Rattle.chains.specs.Chains.{counted};
+ghost use Rattle.recency.specs.State.{state, unchained, SameRows};
 ghost use Rattle.recency.specs.Linked.{Linked, last_from, CanLink, CanIndex};
 ghost use Rattle.recency.specs.Held.{state_of, is_stale, is_written, frames, Held, Holds, CanPack, Packed, CanShorten, CanAppend, CanMark, count_with, stale_with, written_with};
 ghost use Rattle.recency.specs.Held.{CanUse, CanEvict, Gone, CanCopy, Copied, CanLoad, CanSave};
 
-use chains::Chains;
 use frames::Frame;
 
 // How many places a log has. It is packed when all are used, so there should be far more than pages.
@@ -18,9 +18,6 @@ pub const PLACES: usize = 8192;
 
 // How many heads there are.
 pub const BUCKETS: usize = 8192;
-
-// The places of a list of pages, chained by their pages' buckets.
-pub type PageChains = Chains<PLACES, BUCKETS>;
 
 // What a place of a log says: that it is stale, or else whether its page was written.
 #[derive(Clone, Copy, PartialEq, Eq)]
@@ -41,52 +38,58 @@ pub struct Queue {
     pub now: usize,
 }
 
-// The pages used, oldest first; what each place says; the chains that find a page's last place; and which places are in use. It is large, so it is lent and
-// never moved.
+// The pages used, oldest first; what each place says; the chains that find a page's last place; and which places are in use. The rows are lent, and may have
+// any length.
 #[derive(Drop)]
-pub struct Log {
-    pub pages: [u64; PLACES],
-    pub marks: [Mark; PLACES],
-    pub chains: PageChains,
+pub struct Log<'a> {
+    pub pages: &'a mut [u64],
+    pub marks: &'a mut [Mark],
+    pub next: &'a mut [u16],
+    pub heads: &'a mut [u16],
     pub queue: Queue,
 }
 
-// Place c, the first that is not chained, is put in front of its page's bucket.
-pub fn link(pages: &[u64], chains: &mut PageChains, c: usize)
-    requires { CanLink pages.now chains.old.next chains.old.heads c }
-    ensures { Linked pages.now chains.new.next chains.new.heads (c + 1) }
+// Place c, the first that is not chained, is put in front of its page's bucket. Here and below the rows are lent one by one: the list need be no log's.
+pub fn link(pages: &[u64], next: &mut [u16], heads: &mut [u16], c: usize)
+    requires { CanLink pages.now next.old heads.old c }
+    ensures { Linked pages.now next.new heads.new (c + 1) }
 {
-    // A proof learns how long the rows are where one of them is named.
-    let _ = &chains.heads;
-    let v = chains.bucket(pages[c]);
-    chains.push(0, c, v);
+    let v = chains::bucket::<BUCKETS>(pages[c]);
+    chains::push(0, heads, next, c, v);
 }
 
 // The last place of a page from `low` on among the first `end`. Places count from the list's front, so a part of it is no plainer.
-pub fn find(pages: &[u64], chains: &PageChains, low: usize, end: usize, page: u64) -> Option<usize>
-    requires { Linked pages.now chains.now.next chains.now.heads end }
+pub fn find(
+    pages: &[u64],
+    next: &[u16],
+    heads: &[u16],
+    low: usize,
+    end: usize,
+    page: u64,
+) -> Option<usize>
+    requires { Linked pages.now next.now heads.now end }
     ensures { counted result ≡ last_from low pages.now end page }
 {
-    let mut last = chains.head(0, chains.bucket(page));
-    while let Some(j) = last
-        && low <= j
-    {
-        if pages[j] == page {
-            return last;
+    // Places are counted from 1 here, as the rows have them, so that at each link one test tells that the chain ends or goes below `low`. Over an `Option` it took two
+    // and a subtraction, and a replay of pages that share a bucket two fifths longer.
+    let mut e = usize::from(heads[chains::bucket::<BUCKETS>(page)]);
+    while low < e {
+        if pages[e - 1] == page {
+            return Some(e - 1);
         }
-        last = chains.link(j);
+        e = usize::from(next[e - 1]);
     }
     None
 }
 
 // The first n places are chained; the log behind them stays as it is, but is there.
-fn index(pages: &[u64], chains: &mut PageChains, n: usize)
-    requires { CanIndex pages.now n }
-    ensures { Linked pages.now chains.new.next chains.new.heads n }
+fn index(pages: &[u64], next: &mut [u16], heads: &mut [u16], n: usize)
+    requires { CanIndex pages.now next.old heads.old n }
+    ensures { Linked pages.now next.new heads.new n }
 {
-    chains.clear();
+    chains::clear(heads);
     for c in 0..n {
-        link(pages, chains, c);
+        link(pages, next, heads, c);
     }
 }
 
@@ -111,15 +114,59 @@ impl Mark {
     }
 }
 
-impl Log {
+// The least recently used page goes: the first from `low` on that is not stale. Answers which places are in use then, and the frame that went. Here and below
+// the two rows are lent by themselves, so that a caller need lend no chains.
+pub fn evict(pages: &[u64], marks: &[Mark], q: Queue) -> (Queue, Frame)
+    requires { CanEvict (unchained pages.now marks.now q) }
+    ensures { Gone (unchained pages.now marks.now q) result.0 result.1 }
+{
+    for r in q.low..q.now {
+        let mark = marks[r];
+        if !mark.is_stale() {
+            let left = Queue {
+                resident: q.resident - 1,
+                low: r + 1,
+                now: q.now,
+            };
+            let gone = Frame {
+                page: pages[r],
+                written: mark.is_written(),
+            };
+            return (left, gone);
+        }
+    }
+    unreachable!()
+}
+
+// The resident frames, most recently used first, at the front of two columns.
+pub fn save(pages: &[u64], marks: &[Mark], q: Queue, list: &mut [u64], kept: &mut [bool])
+    requires { CanSave (unchained pages.now marks.now q) list.old kept.old }
+    ensures list_after { list.new ≡ over (pages_of (frames (unchained pages.now marks.now q))) list.old }
+    ensures kept_after { kept.new ≡ over (marks_of (frames (unchained pages.now marks.now q))) kept.old }
+{
+    // i counts the frames that are told, which are not all that are passed.
+    let mut i = 0;
+    for r in (q.low..q.now).rev() {
+        let mark = marks[r];
+        if mark.is_stale() {
+            continue;
+        }
+        list[i] = pages[r];
+        kept[i] = mark.is_written();
+        i += 1;
+    }
+}
+
+impl Log<'_> {
     // The last place of a page.
     pub fn find(&self, page: u64) -> Option<usize>
-        requires { Held self.now }
-        ensures { counted result ≡ last_from self.now.queue.low self.now.pages self.now.queue.now page }
+        requires { Held (state self.now) }
+        ensures { counted result ≡ last_from self.now.queue.low self.now.pages.now self.now.queue.now page }
     {
         find(
-            &self.pages,
-            &self.chains,
+            self.pages,
+            self.next,
+            self.heads,
             self.queue.low,
             self.queue.now,
             page,
@@ -128,8 +175,9 @@ impl Log {
 
     // The places that are not stale, moved to the front with what they say. Answers how many there are.
     fn pack(&mut self) -> usize
-        requires { CanPack self.old }
-        ensures { Packed self.old self.new result }
+        requires { CanPack (state self.old) }
+        ensures packed { Packed (state self.old) (state self.new) result }
+        ensures rows { SameRows self.old self.new }
     {
         // By place: the rows that are read are written too.
         let mut w = 0;
@@ -147,11 +195,14 @@ impl Log {
 
     // A full log, made short: only the places that count are left.
     fn shorten(&mut self)
-        requires { CanShorten self.old }
-        ensures { Holds (frames self.old) self.new }
+        requires { CanShorten (state self.old) }
+        ensures holds { Holds (frames (state self.old)) (state self.new) }
+        ensures rows { SameRows self.old self.new }
     {
         let n = self.pack();
-        index(&self.pages, &mut self.chains, n);
+        // Here and below a row that is only read is taken first, and as a `&mut`: beside a `&` out of `self` the check lets no other row be lent.
+        let pages = &mut *self.pages;
+        index(pages, self.next, self.heads, n);
         self.queue = Queue {
             resident: n,
             low: 0,
@@ -161,26 +212,29 @@ impl Log {
 
     // A page is appended, which is counted among the resident ones already.
     fn append(&mut self, page: u64, written: bool)
-        requires { CanAppend self.old page }
-        ensures { Holds (framed page written ∷ taken page (frames self.old)) self.new }
+        requires { CanAppend (state self.old) page }
+        ensures holds { Holds (framed page written ∷ taken page (frames (state self.old))) (state self.new) }
+        ensures rows { SameRows self.old self.new }
     {
         let at = self.queue.now;
         self.pages[at] = page;
         self.marks[at] = Mark::of(written);
-        link(&self.pages, &mut self.chains, at);
+        let pages = &mut *self.pages;
+        link(pages, self.next, self.heads, at);
         self.queue.now = at + 1;
-        if self.queue.now == PLACES {
+        if self.queue.now == self.pages.len() {
             self.shorten();
         }
     }
 
     // The place where a page stood last is stale once the page is used again. A page that comes in is counted.
     fn mark(&mut self, last: Option<usize>)
-        requires { CanMark self.old last }
-        ensures { self.new ≡ record self.old {
-          marks = stale_with last self.old.marks;
+        requires { CanMark (state self.old) last }
+        ensures changed { state self.new ≡ record (state self.old) {
+          marks = stale_with last self.old.marks.now;
           queue = record self.old.queue { resident = count_with last self.old.queue.resident };
         } }
+        ensures rows { SameRows self.old self.new }
     {
         match last {
             Some(j) => self.marks[j] = Mark::Stale,
@@ -190,8 +244,8 @@ impl Log {
 
     // Whether a page is written once it is used: if it is now, or was at its last place.
     fn stays_written(&self, last: Option<usize>, written: bool) -> bool
-        requires { counted last ≤ length self.now.marks }
-        ensures { result ≡ written_with last self.now.marks written }
+        requires { counted last ≤ length self.now.marks.now }
+        ensures { result ≡ written_with last self.now.marks.now written }
     {
         match last {
             Some(j) => self.marks[j].is_written() || written,
@@ -201,38 +255,34 @@ impl Log {
 
     // A page is used, whose last place is told; a page that is not found comes in. A write marks it, and a mark stays.
     pub fn used(&mut self, page: u64, written: bool, last: Option<usize>)
-        requires { CanUse self.old page last }
-        ensures { Holds (framed page (dirty page (frames self.old) || written) ∷ taken page (frames self.old)) self.new }
+        requires { CanUse (state self.old) page last }
+        ensures holds { Holds (framed page (dirty page (frames (state self.old)) || written) ∷ taken page (frames (state self.old))) (state self.new) }
+        ensures rows { SameRows self.old self.new }
     {
         let w = self.stays_written(last, written);
         self.mark(last);
         self.append(page, w);
     }
 
-    // The least recently used page goes: the first from `low` on that is not stale.
+    // The least recently used page goes.
     pub fn evict(&mut self) -> Frame
-        requires { CanEvict self.old }
-        ensures gone { Gone self.old self.new.queue result }
+        requires { CanEvict (state self.old) }
+        ensures gone { Gone (state self.old) self.new.queue result }
         ensures rest { self.new ≡ record self.old { queue = self.new.queue } }
     {
-        self.queue.resident -= 1;
-        for r in self.queue.low..self.queue.now {
-            let mark = self.marks[r];
-            if !mark.is_stale() {
-                self.queue.low = r + 1;
-                return Frame {
-                    page: self.pages[r],
-                    written: mark.is_written(),
-                };
-            }
-        }
-        unreachable!()
+        let q = self.queue;
+        let pages = &mut *self.pages;
+        let marks = &mut *self.marks;
+        let (left, gone) = evict(pages, marks, q);
+        self.queue = left;
+        gone
     }
 
     // A list is written over the front of the log, the last page first, and its marks beside it. Here and below these are plain columns: the scope names this form.
     fn copy_back(&mut self, list: &[u64], kept: &[bool])
-        requires { CanCopy list.now kept.now self.old }
-        ensures { Copied list.now kept.now self.old self.new }
+        requires { CanCopy list.now kept.now (state self.old) }
+        ensures copied { Copied list.now kept.now (state self.old) (state self.new) }
+        ensures rows { SameRows self.old self.new }
     {
         // By place: two columns backwards beside two rows forwards are no plainer as iterators.
         let n = list.len();
@@ -245,12 +295,14 @@ impl Log {
 
     // The frames of two columns are the resident ones, in the columns' order.
     pub fn load(&mut self, list: &[u64], kept: &[bool])
-        requires { CanLoad list.now kept.now }
-        ensures { Holds (frames_of list.now kept.now) self.new }
+        requires { CanLoad list.now kept.now (state self.old) }
+        ensures holds { Holds (frames_of list.now kept.now) (state self.new) }
+        ensures rows { SameRows self.old self.new }
     {
         let n = list.len();
         self.copy_back(list, kept);
-        index(&self.pages, &mut self.chains, n);
+        let pages = &mut *self.pages;
+        index(pages, self.next, self.heads, n);
         self.queue = Queue {
             resident: n,
             low: 0,
@@ -260,20 +312,10 @@ impl Log {
 
     // The resident frames, most recently used first, at the front of two columns.
     pub fn save(&self, list: &mut [u64], kept: &mut [bool])
-        requires { CanSave self.now list.old kept.old }
-        ensures list_after { list.new ≡ over (pages_of (frames self.now)) list.old }
-        ensures kept_after { kept.new ≡ over (marks_of (frames self.now)) kept.old }
+        requires { CanSave (state self.now) list.old kept.old }
+        ensures list_after { list.new ≡ over (pages_of (frames (state self.now))) list.old }
+        ensures kept_after { kept.new ≡ over (marks_of (frames (state self.now))) kept.old }
     {
-        // i counts the frames that are told, which are not all that are passed.
-        let mut i = 0;
-        for r in (self.queue.low..self.queue.now).rev() {
-            let mark = self.marks[r];
-            if mark.is_stale() {
-                continue;
-            }
-            list[i] = self.pages[r];
-            kept[i] = mark.is_written();
-            i += 1;
-        }
+        save(self.pages, self.marks, self.queue, list, kept);
     }
 }

@@ -25,7 +25,7 @@ use Rattle.lru_cache.specs.Tally.{nothing, tally, per_million}
 use Rattle.replays.specs.Replay.{bad_start, replay_verdict, replay_of, summary_of, replay_answer, frames_after, events_after}
 use Rattle.lru_cache.specs.Passes.{CanRun, Ran}
 use Rattle.lru_cache.specs.declared.Tally.{Tally}
-use Rattle.recency.specs.declared.Log.{Log}
+use Rattle.recency.specs.State.{State}
 use Rattle.replays.specs.declared.Summary.{Summary}
 use Rattle.lru_cache.proofs.Counting.{tally_counts, fetches_few}
 use Rattle.replays.proofs.Judging.{Playable, sound_playable}
@@ -117,7 +117,7 @@ module _ (f : List ℕ) (K : ℕ) (cache : List ℕ) (kept : List Bool) (residen
             room = a.fits;
           })
 
-      module _ {r : Tally} {log' : Log} {cache' : List ℕ} {kept' : List Bool} {events' : List ℕ}
+      module _ {r : Tally} {log' : State} {cache' : List ℕ} {kept' : List Bool} {events' : List ℕ}
           (d : Ran (replay K (take resident frames) (items_from f 0 n)) (tally K (take resident frames) nothing (items_from f 0 n))
           cache kept events r log' cache' kept' events') where
         items_are : items_from f 0 n ≡ items f

@@ -1,3 +1,4 @@
 pub mod Replay
+pub mod Passes
 pub mod Promises
 pub mod Examples

@@ -1,17 +1,19 @@
 // A replay of a trace file through a cache that evicts the least recently used page: what is refused, and what is answered. The cache is two columns, pages and marks.
 #![tactic(auto)]
 
-ghost use Rattle.std.specs.Prelude.{◌≡◌, ◌≤◌, length};
+ghost use Rattle.std.specs.Prelude.{◌≡◌, length};
+ghost use Rattle.limits.proofs.Numbers.{cache_most};
 ghost use Rattle.pages.specs.Rows.{over};
 ghost use Rattle.trace.specs.Verdict.{Sound};
 ghost use Rattle.frames.specs.Frames.{pages_of, marks_of, frames_of};
 ghost use Rattle.lru_cache.specs.Lru.{words};
-ghost use Rattle.recency.specs.Linked.{places};
+ghost use Rattle.recency.specs.State.{state};
+ghost use Rattle.lru_cache.specs.Passes.{Rows};
 ghost use Rattle.replays.specs.Replay.{twice, bad_start, replay_verdict, replay_of, summary_of, replay_answer, frames_after, events_after};
+ghost use Rattle.replays.specs.Passes.{CanSift, CanStart};
 
-use chains::Chains;
 use limits::CacheSize;
-use recency::{Log, Mark, PageChains, Queue};
+use recency::{Log, Mark, Queue};
 use trace::read::Items;
 use trace::{Reason, Refusal};
 
@@ -33,30 +35,30 @@ pub struct Unreplayed {
 }
 
 // Whether a page stands twice: each is looked for among those before it, and then chained.
-fn has_twice(list: &[u64], chains: &mut PageChains) -> bool
-    requires { length list.now ≤ places }
+fn has_twice(list: &[u64], next: &mut [u16], heads: &mut [u16]) -> bool
+    requires { CanSift list.now next.old heads.old }
     ensures { result ≡ twice list.now }
 {
-    chains.clear();
+    chains::clear(heads);
     for (i, &page) in list.iter().enumerate() {
-        let again = recency::find(list, chains, 0, i, page).is_some();
+        let again = recency::find(list, next, heads, 0, i, page).is_some();
         if again {
             return true;
         }
-        recency::link(list, chains, i);
+        recency::link(list, next, heads, i);
     }
     false
 }
 
 // Whether a cache cannot start so. Here and below the cache is plain columns, with the count of those that are resident: the scope names this form.
-fn bad_start(k: usize, cache: &[u64], resident: usize, chains: &mut PageChains) -> bool
-    requires { k ≤ places }
+fn bad_start(k: usize, cache: &[u64], resident: usize, next: &mut [u16], heads: &mut [u16]) -> bool
+    requires { CanStart k next.old heads.old }
     ensures { result ≡ bad_start k cache.now resident }
 {
     if k < resident || cache.len() < k {
         return true;
     }
-    has_twice(&cache[..resident], chains)
+    has_twice(&cache[..resident], next, heads)
 }
 
 // The file's own refusals, then 7, 9, 10, 11.
@@ -66,8 +68,10 @@ fn judge(
     cache: &[u64],
     resident: usize,
     room: usize,
-    chains: &mut PageChains,
+    next: &mut [u16],
+    heads: &mut [u16],
 ) -> Result<(), Reason>
+    requires { CanStart cache_most next.old heads.old }
     ensures { result ≡ replay_verdict file.now k cache.now resident room }
 {
     trace::judge(file)?;
@@ -78,7 +82,7 @@ fn judge(
     if k < h.filter {
         return Err(Reason::SmallCache);
     }
-    if bad_start(k as usize, cache, resident, chains) {
+    if bad_start(k as usize, cache, resident, next, heads) {
         return Err(Reason::BadStart);
     }
     if (room as u64) < 4 * h.items {
@@ -99,6 +103,7 @@ fn replay_sound(
 ) -> Summary
     requires events_value { replay_verdict file.now k cache.old resident (length events.old) ≡ Sound }
     requires kept_len { length kept.old ≡ length cache.old }
+    requires rows { Rows (state log.old) }
     ensures value { result ≡ summary_of file.now k (frames_of cache.old kept.old) resident }
     ensures cache_after { cache.new ≡ over (pages_of (replay_of file.now k
         (frames_of cache.old kept.old) resident).final) cache.old }
@@ -128,7 +133,8 @@ fn replay_in(
     events: &mut [u64],
     log: &mut Log,
 ) -> Result<Summary, Unreplayed>
-    requires { length kept.old ≡ length cache.old }
+    requires kept_len { length kept.old ≡ length cache.old }
+    requires rows { Rows (state log.old) }
     ensures value { result ≡ replay_answer file.now k (frames_of cache.old kept.old) resident (length events.old) }
     ensures cache_after { cache.new ≡ pages_of (frames_after file.now k
         (frames_of cache.old kept.old) resident (length events.old)) }
@@ -136,10 +142,12 @@ fn replay_in(
         (frames_of cache.old kept.old) resident (length events.old)) }
     ensures events_after { events.new ≡ events_after file.now k (frames_of cache.old kept.old) resident events.old }
 {
-    judge(file, k, cache, resident, events.len(), &mut log.chains).map_err(|reason| Unreplayed {
-        refusal: reason.into(),
-        resident: resident as u64,
-    })?;
+    judge(file, k, cache, resident, events.len(), log.next, log.heads).map_err(
+        |reason| Unreplayed {
+            refusal: reason.into(),
+            resident: resident as u64,
+        },
+    )?;
     Ok(replay_sound(file, k, cache, kept, resident, events, log))
 }
 
@@ -161,14 +169,15 @@ pub fn replay_columns(
         (frames_of cache.old kept.old) resident (length events.old)) }
     ensures events_after { events.new ≡ events_after file.now k (frames_of cache.old kept.old) resident events.old }
 {
-    // Here and not in a function that answers it, so that it is built where it stays.
+    let mut pages = [0; recency::PLACES];
+    let mut marks = [Mark::Clean; recency::PLACES];
+    let mut next = [0; recency::PLACES];
+    let mut heads = [0; recency::BUCKETS];
     let mut log = Log {
-        pages: [0; recency::PLACES],
-        marks: [Mark::Clean; recency::PLACES],
-        chains: Chains {
-            heads: [0; recency::BUCKETS],
-            next: [0; recency::PLACES],
-        },
+        pages: &mut pages,
+        marks: &mut marks,
+        next: &mut next,
+        heads: &mut heads,
         queue: Queue {
             resident: 0,
             low: 0,

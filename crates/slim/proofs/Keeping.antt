@@ -24,7 +24,8 @@ use Rattle.epochs.proofs.Kept.{first-kept, last_kept}
 use Rattle.slim.specs.Passes.{last_place, Noted, NoneNoted, CanKeep, kept_there, Owes, Flags}
 use Rattle.slim.proofs.Flags.{place-taken, owes_new, owes_more}
 use Rattle.pages.proofs.Table.{has-taken, has_within, place_within}
-use Rattle.filter.specs.Filter.{Notes, FirstNoted, Clear}
+use Rattle.filter.specs.Filter.{places, Notes, FirstNoted, Clear, flags_set}
+use Rattle.filter.proofs.Bits.{flags_few}
 use Rattle.filter.proofs.Noting.{notes_long, notes_told}
 use Rattle.filter.proofs.Finding.{first-after}
 
@@ -207,6 +208,10 @@ keeping_none {done = done} held {out = out} p l = record {
 
 module _ {file : List ℕ} {from end had done : ℕ} {filter last : List ℕ} {held : ℕ} {flags₀ out₀ : List ℕ} {k c m skip : ℕ} {flags out : List ℕ}
     (r : Keeping file from end had done filter last held flags₀ out₀ k c m skip flags out) where
+  -- No more pages are owed a write than are held.
+  pub keeping_owing : Notes file last held filter → flags_set places flags ≤ held
+  keeping_owing f = omega (arith, notes_long f, r.left.before, flags_few places c flags r.clear)
+
   module _ (h : k < end) {x : Item} (e : x ≡ item_at file k) where
     -- What is left is the item that was read, and what is left after it.
     rest : items_from file k (end - k) ≡ x ∷ items_from file (k + 1) (end - (k + 1))

@@ -1,40 +1,40 @@
 -- `recency::find` meets its contract. Assumes nothing.
 use borrow.Author.Rules.{rules}
-use Rattle.recency.proofs.Linking.{find_none, find_end, find_below, find_reads, find_next, find_less, find_here, find_more}
+use Rattle.recency.proofs.Linking.{find_none, find_reads, find_next, find_less, find_end, find_here, find_more}
 use Rattle.recency.proofs.find.Goals as goal
 
-pub loop-last-init : goal.loop-last-init
-loop-last-init c =
+pub loop-e-init : goal.loop-e-init
+loop-e-init c =
     search find_none
 
-pub offset_bounds-pages-j : goal.offset_bounds-pages-j
-offset_bounds-pages-j c =
+pub offset_bounds-pages-e : goal.offset_bounds-pages-e
+offset_bounds-pages-e c =
     search (find_reads, rules)
 
-pub bounds-pages-j : goal.bounds-pages-j
-bounds-pages-j c =
+pub bounds-pages-e : goal.bounds-pages-e
+bounds-pages-e c =
     search find_reads
 
-pub returns-then-pages-j : goal.returns-then-pages-j
-returns-then-pages-j c =
-    find_here c.requires c.loop-last.invariant c.in-Some.is c.args.low c.if-low-j.true c.if-pages-j.true
+pub returns-then-pages-e : goal.returns-then-pages-e
+returns-then-pages-e c =
+    search find_here
 
-pub link-last-requires : goal.link-last-requires
-link-last-requires c =
+pub offset_bounds-next-e : goal.offset_bounds-next-e
+offset_bounds-next-e c =
     search (find_next, rules)
 
-pub loop-last-smaller : goal.loop-last-smaller
-loop-last-smaller c =
-    find_less c.requires c.loop-last.invariant c.in-Some.is c.link-last.ensures
+pub bounds-next-e : goal.bounds-next-e
+bounds-next-e c =
+    search find_next
 
-pub loop-last-preserved : goal.loop-last-preserved
-loop-last-preserved c =
-    find_more c.requires c.loop-last.invariant c.in-Some.is c.if-pages-j.false c.link-last.ensures
+pub loop-e-smaller : goal.loop-e-smaller
+loop-e-smaller c =
+    find_less c.requires c.loop-e.invariant c.loop-e-test.true c.from-e-in-loop-e.ensures
 
-pub returns-in-loop-last : goal.returns-in-loop-last
-returns-in-loop-last c =
+pub loop-e-preserved : goal.loop-e-preserved
+loop-e-preserved c =
+    find_more c.requires c.loop-e.invariant c.loop-e-test.true c.if-pages-e.false c.from-e-in-loop-e.ensures
+
+pub returns : goal.returns
+returns c =
     search find_end
-
-pub returns-else-low-j : goal.returns-else-low-j
-returns-else-low-j c =
-    find_below c.requires c.loop-last.invariant c.in-Some.is c.args.low c.if-low-j.false

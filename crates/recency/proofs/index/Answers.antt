@@ -1,7 +1,7 @@
 -- `recency::index` meets its contract. Assumes nothing.
-use Rattle.recency.proofs.Linking.{linked_none}
+use Rattle.recency.proofs.Linking.{index_none}
 use Rattle.recency.proofs.index.Goals as goal
 
 pub loop-c-init : goal.loop-c-init
 loop-c-init c =
-    search linked_none
+    search index_none

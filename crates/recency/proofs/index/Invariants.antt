@@ -4,4 +4,4 @@ use Rattle.recency.proofs.index.Given as goal
 
 abbrev pub invariant-loop-c : goal.invariant-loop-c
 invariant-loop-c l =
-    Linked l.pages l.chains.next l.chains.heads l.c
+    Linked l.pages l.next l.heads l.c

@@ -1,5 +1,5 @@
 -- `replays::bad_start` meets its contract. Assumes nothing.
-use Rattle.replays.proofs.Starting.{start_many, start_short, start_twice}
+use Rattle.replays.proofs.Starting.{start_sift, start_many, start_short, start_twice}
 use Rattle.replays.proofs.bad_start.Goals as goal
 use Rattle.replays.proofs.bad_start.Goals.{then-k-resident-via-then-k-resident, then-k-resident-via-else-k-resident+then-cache-k}
 
@@ -9,6 +9,10 @@ returns-then-k-resident c =
       | then-k-resident-via-then-k-resident w ↦ start_many c.args.k c.args.cache.now c.args.resident w.if-k-resident.true
       | then-k-resident-via-else-k-resident+then-cache-k w ↦ start_short c.args.k c.args.cache.now c.args.resident w.if-k-resident.false w.if-cache-k.true
     ]
+
+pub has_twice-requires : goal.has_twice-requires
+has_twice-requires c =
+    search start_sift
 
 pub returns : goal.returns
 returns c =

@@ -5,7 +5,7 @@ use Rattle.replays.proofs.has_twice.Goals as goal
 
 pub loop-i-init : goal.loop-i-init
 loop-i-init c =
-    search sifting_none
+    sifting_none c.requires c.clear.ensures
 
 pub returns-then-again : goal.returns-then-again
 returns-then-again c =

@@ -4,4 +4,4 @@ use Rattle.replays.proofs.has_twice.Given as goal
 
 abbrev pub invariant-loop-i : goal.invariant-loop-i
 invariant-loop-i l =
-    Sifting l.list l.chains.next l.chains.heads l.i
+    Sifting l.list l.next l.heads l.i

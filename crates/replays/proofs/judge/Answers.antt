@@ -1,5 +1,4 @@
 -- `replays::judge` meets its contract. Assumes nothing.
-use borrow.Author.Rules.{rules}
 use Rattle.std.proofs.lemmas.Result.{err_from_is_err_and}
 use Rattle.trace.proofs.Checking.{sound_long}
 use Rattle.trace.proofs.Tests.{test_fails, test_passes, tests_done}
@@ -28,7 +27,7 @@ returns-then-k-h c =
 
 pub bad_start-requires : goal.bad_start-requires
 bad_start-requires c =
-    search (size_start, rules)
+    size_start c.args.k c.new.ensures c.is_none.ensures c.if-is_none.false c.requires
 
 pub returns-then-bad_start : goal.returns-then-bad_start
 returns-then-bad_start c =

@@ -2,6 +2,7 @@
 use mathlib.Core.Path.{◌≡◌, refl}
 use Rattle.std.proofs.lemmas.Result.{err_from_is_err_and}
 use Rattle.replays.specs.Replay.{refusal_of}
+use Rattle.lru_cache.proofs.Rows.{rows_kept}
 use Rattle.trace.proofs.Mapped.{mapped_ok, mapped_err}
 use Rattle.replays.proofs.Replaying.{refused-answer, refused_cache, refused-kept, refused_events, done_sound, done_answer, done_cache, done_kept, done_events}
 use Rattle.replays.proofs.replay_in.Goals as goal
@@ -10,8 +11,9 @@ pub replay_sound-requires : goal.replay_sound-requires
 replay_sound-requires c =
     let sound = mapped_ok c.judge.result (λ r u. u ≡ refusal_of r c.args.resident) c.map_err.ensures.cases c.in_ok-map_err.was in
     record {
-      events_value = done_sound _ _ _ c.args.kept.now _ c.args.events.now c.requires c.judge.ensures sound;
-      kept_len = c.requires;
+      events_value = done_sound _ _ _ c.args.kept.now _ c.args.events.now c.requires.kept_len c.judge.ensures sound;
+      kept_len = c.requires.kept_len;
+      rows = rows_kept c.requires.rows _ _ c.judge.auto.next c.judge.auto.heads;
     }
 
 pub returns-in_err-map_err : goal.returns-in_err-map_err
@@ -19,7 +21,7 @@ returns-in_err-map_err c =
     let p = err_from_is_err_and c.from_residual.result c.from_residual.ensures.1 in
     let q = mapped_err c.judge.result (λ r u. u ≡ refusal_of r c.args.resident) c.map_err.ensures.cases c.in_err-map_err.was in
     let events = c.args.events.now in
-    let marks = c.requires in
+    let marks = c.requires.kept_len in
     let is = c.judge.ensures in
     record {
       value = rw (p.1, p.2, q.2) (refused-answer _ _ _ c.args.kept.now _ events marks is q.1 refl);
@@ -32,7 +34,7 @@ returns-in_err-map_err c =
 pub returns : goal.returns
 returns c =
     let events = c.args.events.now in
-    let marks = c.requires in
+    let marks = c.requires.kept_len in
     let is = c.judge.ensures in
     let sound = mapped_ok c.judge.result (λ r u. u ≡ refusal_of r c.args.resident) c.map_err.ensures.cases c.in_ok-map_err.was in
     record {

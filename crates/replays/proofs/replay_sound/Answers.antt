@@ -9,12 +9,14 @@ of-items-requires c =
 -- What was told of the file holds of the loop and of the rate.
 pub run-t-requires : goal.run-t-requires
 run-t-requires c =
-    played_run _ _ _ c.args.kept.now _ c.args.events.now c.requires.kept_len c.requires.events_value
-    c.of-items.ensures.count
+    record {
+      can_run = played_run _ _ _ c.args.kept.now _ c.args.events.now c.requires.kept_len c.requires.events_value c.of-items.ensures.count;
+      rows = c.requires.rows;
+    }
 
 pub per_million-requires : goal.per_million-requires
 per_million-requires c =
-    let ran = rw c.of-items.ensures.file at c.run-t.ensures in
+    let ran = rw c.of-items.ensures.file at c.run-t.ensures.ran in
     played_few _ _ _ c.args.kept.now _ c.args.events.now c.requires.kept_len c.requires.events_value c.of-items.ensures.count ran
 
 pub returns : goal.returns
@@ -22,7 +24,7 @@ returns c =
     let marks = c.requires.kept_len in
     let sound = c.requires.events_value in
     let count = c.of-items.ensures.count in
-    let ran = rw c.of-items.ensures.file at c.run-t.ensures in
+    let ran = rw c.of-items.ensures.file at c.run-t.ensures.ran in
     record {
       value = played_summary _ _ _ c.args.kept.now _ c.args.events.now marks sound count ran c.per_million.ensures;
       cache_after = played_cache _ _ _ c.args.kept.now _ c.args.events.now marks sound count ran;

@@ -1,24 +1,12 @@
 -- `recency::Log::evict` meets its contract. Assumes nothing.
-use mathlib.Core.Path.{sym, ◌∙◌}
-use Rattle.recency.proofs.Aging.{aging_none, aging_more, aging_here, aging_rest, aging_never}
+use mathlib.Core.Path.{refl}
+use Rattle.recency.proofs.Unchained.{evict_rows, evicted}
 use Rattle.recency.proofs.Log.evict.Goals as goal
 
-pub loop-r-init : goal.loop-r-init
-loop-r-init c =
-    aging_none c.requires
+pub evict-requires : goal.evict-requires
+evict-requires c =
+    evict_rows c.requires
 
-pub returns-then-not-is_stale-clause-gone : goal.returns-then-not-is_stale-clause-gone
-returns-then-not-is_stale-clause-gone c =
-    rw c.is_written.ensures (aging_here c.requires c.loop-r.invariant c.loop-r-test.true (sym c.is_stale.ensures ∙ c.if-not-is_stale.true))
-
-pub returns-then-not-is_stale-clause-rest : goal.returns-then-not-is_stale-clause-rest
-returns-then-not-is_stale-clause-rest c =
-    aging_rest c.requires c.loop-r.invariant
-
-pub loop-r-preserved : goal.loop-r-preserved
-loop-r-preserved c =
-    aging_more c.requires c.loop-r.invariant c.loop-r-test.true (sym c.is_stale.ensures ∙ c.if-not-is_stale.false)
-
-pub unreachable-requires : goal.unreachable-requires
-unreachable-requires c =
-    aging_never c.requires c.loop-r.invariant c.loop-r-test.false
+pub returns : goal.returns
+returns c =
+    record { gone = evicted c.evict.ensures; rest = refl }

@@ -1,15 +1,7 @@
 -- `filter::flags::Flags::is_set` meets its contract. Assumes nothing.
-use mathlib.Core.Path.{ap, ◌∙◌}
-use Prim.Native.Nat.{ℕ}
-use lib.Dec.{eqb}
-use Rattle.filter.proofs.Bits.{flag_even, flag_odd}
+use native.Mathlib.Omega.{arith}
 use Rattle.filter.proofs.flags.Flags.is_set.Goals as goal
-use Rattle.filter.proofs.flags.Flags.is_set.Goals.{then-j-eq0, else-j-eq0}
 
-pub returns : goal.returns
-returns c =
-    ap (λ (n : ℕ). eqb n 1)
-    (elim c.if-j-eq0.branch [
-      | then-j-eq0 w ↦ w.flag-is ∙ flag_even _ _ w.if-j-eq0.true
-      | else-j-eq0 w ↦ w.flag-is ∙ flag_odd _ _ w.if-j-eq0.false
-    ])
+pub flag_at-requires : goal.flag_at-requires
+flag_at-requires c =
+    omega (arith, c.args.self.now.is_long, c.requires)

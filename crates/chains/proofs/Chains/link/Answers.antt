@@ -1,8 +1,0 @@
--- `Chains::link` meets its contract. Assumes nothing.
-use borrow.Author.Rules.{rules}
-use Rattle.chains.proofs.Counted.{counted_is}
-use Rattle.chains.proofs.Chains.link.Goals as goal
-
-pub returns : goal.returns
-returns g c =
-    search (counted_is, rules)
