@@ -1,39 +1,58 @@
 -- `slim::look` meets its contract. Assumes nothing.
+use mathlib.Core.Path.{refl}
+use native.Mathlib.Omega.{arith}
 use borrow.Author.Rules.{rules}
-use Rattle.slim.proofs.Looking.{looking_none, looking_all, looking_note, looking_old, looking_add, looking_new, looking_full}
+use Rattle.slim.proofs.Looking.{looking_none, looking_all, looking_place, looking_old, looking_add, looking_new, looking_full}
 use Rattle.slim.proofs.look.Goals as goal
-use Rattle.slim.proofs.look.Goals.{in-Some, in_default+else-most-table}
+use Rattle.slim.proofs.look.Goals.{in-Some, in_default+else-most-held, else-loop-k-test, then-loop-k-test+in_default+then-most-held}
 
 pub loop-k-init : goal.loop-k-init
 loop-k-init c =
-    looking_none _ _ _ _ _ _ _ c.requires
+    (looking_none c.requires c.args.table.now.is, refl)
 
-pub note-requires : goal.note-requires
-note-requires c =
-    looking_note c.loop-k.table.is c.loop-k.invariant c.loop-k-test.true c.item_at-x.ensures c.in-Some.ensures
+pub offset_bounds-last-j : goal.offset_bounds-last-j
+offset_bounds-last-j c =
+    omega (arith, looking_place c.loop-k.invariant.0 c.loop-k-test.true c.item_at-x.ensures c.in-Some.ensures)
 
--- A stretch ends before an item whose page is new to a full filter.
-pub returns-then-most-table-clause-looked : goal.returns-then-most-table-clause-looked
-returns-then-most-table-clause-looked c =
-    looking_full c.loop-k.table.is c.loop-k.invariant c.loop-k-test.true c.item_at-x.ensures c.in_default.ensures c.if-most-table.true
+pub bounds-last-j : goal.bounds-last-j
+bounds-last-j c =
+    looking_place c.loop-k.invariant.0 c.loop-k-test.true c.item_at-x.ensures c.in-Some.ensures
 
 -- An item whose page is new may be added to a filter that is not full.
-pub add-requires : goal.add-requires
-add-requires c =
-    looking_add c.loop-k.table.is c.loop-k.invariant c.loop-k-test.true c.item_at-x.ensures c.in_default.ensures c.if-most-table.false (search rules)
+pub add-requires-clause-can_add : goal.add-requires-clause-can_add
+add-requires-clause-can_add c =
+    looking_add c.loop-k.invariant.0 c.loop-k-test.true c.item_at-x.ensures c.in_default.ensures c.if-most-held.false (search rules)
 
 -- A turn passes an item whose page is in the filter, or is added to it.
 pub loop-k-preserved : goal.loop-k-preserved
 loop-k-preserved c =
+    let (looking, end) = c.loop-k.invariant in
     elim c.match-find.branch [
-      | in-Some w ↦ rw w.table-is (
-          looking_old c.loop-k.table.is c.loop-k.invariant c.loop-k-test.true c.item_at-x.ensures w.in-Some.ensures
-          w.note.ensures.file w.note.ensures.last_after w.note.ensures.held)
-      | in_default+else-most-table w ↦ rw w.table-is (
-          looking_new c.loop-k.table.is c.loop-k.invariant c.loop-k-test.true c.item_at-x.ensures w.in_default.ensures w.if-most-table.false (search rules)
-          w.add.ensures.file w.add.ensures.last_after w.add.ensures.held w.add.ensures.holds)
+      | in-Some w ↦ rw (w.held-is, w.last-is, w.heads-is, w.next-is) (
+        looking_old looking c.loop-k-test.true c.item_at-x.ensures w.in-Some.ensures,
+        end,
+      )
+      | in_default+else-most-held w ↦ rw (w.held-is, w.last-is, w.heads-is, w.next-is) (
+        looking_new looking c.loop-k-test.true c.item_at-x.ensures w.in_default.ensures w.if-most-held.false (search rules)
+            w.add.ensures.last_after w.add.ensures.holds,
+        end,
+      )
     ]
 
+-- A stretch ends with the trace, or before an item whose page is new to a full filter.
 pub returns-clause-looked : goal.returns-clause-looked
 returns-clause-looked c =
-    looking_all c.loop-k.invariant c.loop-k-test.false
+    let (looking, end) = c.loop-k.invariant in
+    elim c.loop-k-test.branch [
+      | else-loop-k-test w ↦ rw (w.table-is, w.end-is, end) (looking_all looking w.loop-k-test.false)
+      | then-loop-k-test+in_default+then-most-held w ↦ rw (w.table-is, w.end-is) (
+          looking_full looking w.loop-k-test.true w.item_at-x.ensures w.in_default.ensures w.if-most-held.true)
+    ]
+
+pub returns-clause-within : goal.returns-clause-within
+returns-clause-within c =
+    let (looking, end) = c.loop-k.invariant in
+    elim c.loop-k-test.branch [
+      | else-loop-k-test w ↦ rw (w.end-is, end) (record { begins = looking.can.within; ends = omega arith; holds = looking.holds })
+      | then-loop-k-test+in_default+then-most-held w ↦ rw w.end-is (record { begins = looking.begins; ends = looking.ends; holds = looking.holds })
+    ]
