@@ -1,6 +1,6 @@
 -- The first pass over a stretch: what holds at each turn of its loop. Assumes nothing.
 use Prim.Native.Nat.{ℕ, ◌+◌, ◌-◌, ◌*◌, ◌≤◌, ◌<◌}
-use mathlib.Core.Path.{◌≡◌, refl, sym, ◌∙◌}
+use mathlib.Core.Path.{◌≡◌, sym, ◌∙◌}
 use mathlib.Core.Bool.{true, false, false≢true, or-true}
 use mathlib.Core.List.{List, [], ◌++◌, append-nil}
 use native.Mathlib.Omega.{arith}
@@ -54,15 +54,15 @@ looking_none {file = file} {from = from} can filter =
 
 module _ {file : List ℕ} {n from most held : ℕ} {seen last : List ℕ} {base : ℕ} {heads next : List ℕ} {k c : ℕ}
     (r : Looking file n from most held seen last base heads next k c) where
-  stop : (cut most (pages_in file last c) (items_from file k (n - k))).here ≡ [] → Looked file n from most seen k (pages_in file last c) last
-  stop e = record { stretch_is = r.stretch_is ∙ rw (e, append-nil); filter_is = r.filter_is; last_noted = r.last_noted }
+  stop : {c' : ℕ} → c' ≡ c → (cut most (pages_in file last c) (items_from file k (n - k))).here ≡ [] → Looked file n from most seen k (pages_in file last c') last
+  stop w e = rw w (record { stretch_is = r.stretch_is ∙ rw (e, append-nil); filter_is = r.filter_is; last_noted = r.last_noted })
 
-  -- All items are passed.
-  pub looking_all : n ≤ k → Looked file n from most seen n (pages_in file last c) last
+  -- All items are passed. Here and below a number that the code tells is asked to be the one that is meant, so that it is arithmetic which refuses another.
+  pub looking_all : {c' : ℕ} → c' ≡ c → n ≤ k → Looked file n from most seen n (pages_in file last c') last
   unfolding cut
-  looking_all h =
+  looking_all w h =
       let e : k ≡ n = omega (arith, r.ends) in
-      rw e at (stop (rw (from_none file h)))
+      rw e at (stop w (rw (from_none file h)))
 
   filled : length (pages_in file last c) ≡ c
   filled = notes_long r.filter.notes
@@ -116,9 +116,9 @@ module _ {file : List ℕ} {n from most held : ℕ} {seen last : List ℕ} {base
       pub looking_place : j < filter_most
       looking_place = omega (arith, here, r.holds, r.can.room)
 
-      pub looking_old : Looking file n from most held seen (set last j k) base heads next (k + 1) c
-      looking_old =
-          more c j h refl (rw (add_old _ _ old) (holds_again r.filter k readable j here.1 looking_note.page)) r.holds (omega (arith, here.1, r.filter.notes.within)) here.0
+      pub looking_old : {i : ℕ} → i ≡ k → Looking file n from most held seen (set last j i) base heads next (k + 1) c
+      looking_old w =
+          more c j h (rw w) (rw (w, add_old _ _ old) (holds_again r.filter k readable j here.1 looking_note.page)) r.holds (omega (arith, here.1, r.filter.notes.within)) here.0
 
     module _ (f : None ≡ found x.page (pages_in file last c)) where
       new : has (item_at file k).page (pages_in file last c) ≡ false
@@ -138,5 +138,5 @@ module _ {file : List ℕ} {n from most held : ℕ} {seen last : List ℕ} {base
             more (c + 1) c h a b (omega arith) (omega (arith, r.can.room)) i
 
       -- An item is not passed whose page is not in the filter, which is full.
-      pub looking_full : most ≤ c → Looked file n from most seen k (pages_in file last c) last
-      looking_full o = stop (rw (from_turn file h, cut-begins most (pages_in file last c) (item_at file k) _ (omega (arith, filled, length_new _ _ new))))
+      pub looking_full : {c' : ℕ} → c' ≡ c → most ≤ c → Looked file n from most seen k (pages_in file last c') last
+      looking_full w o = stop w (rw (from_turn file h, cut-begins most (pages_in file last c) (item_at file k) _ (omega (arith, filled, length_new _ _ new))))
